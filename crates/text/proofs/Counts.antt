@@ -10,9 +10,9 @@ use Rattle.std.proofs.shelf.Tests.{cond-both, eqb-false}
 use Rattle.text.specs.declared.reader.State.{State}
 use Rattle.text.specs.declared.reader.State.the-variants.{BeforeProblem, BetweenClauses, InsideClause, Done}
 use Rattle.text.specs.Limits.{most-bytes, most-clauses, most-literals}
-use Rattle.text.specs.Numbers.{number-word}
+use Rattle.tokens.specs.Numbers.{number-word}
 use Rattle.text.specs.Reading.{Reading, clauses-of, Step, on, gives, stops, between, step, go-on, read, reading}
-use Rattle.text.specs.Words.{Piece, word, comment, pieces}
+use Rattle.tokens.specs.Words.{Piece, word, comment, pieces}
 use Rattle.text.proofs.Steps.{problem-by, clause-by}
 
 -- how many clauses may come in a state; where one is being read, at least that one

@@ -1,10 +1,3 @@
 pub mod Counts
-pub mod Digits
-pub mod Gaps
-pub mod Lines
-pub mod NoFurther
-pub mod Numerals
-pub mod Spelled
 pub mod Steps
-pub mod Unread
-pub mod WrittenRead
+mod Unread

@@ -21,7 +21,7 @@ use Rattle.text.specs.declared.problem.Expected.{Expected}
 use Rattle.text.specs.declared.problem.Expected.the-variants.{ProblemWord, FormatWord, Variables, Clauses}
 use Rattle.text.specs.declared.reader.State.the-variants.{BeforeProblem, InsideClause}
 use Rattle.text.specs.Limits.{most-clauses}
-use Rattle.text.specs.Numbers.{number-word}
+use Rattle.tokens.specs.Numbers.{number-word}
 use Rattle.text.specs.Problem.{within, then-clauses, then-complete, expect}
 use Rattle.text.specs.Reading.{Step, on, gives, stops, between, after-problem, clause-word}
 use Rattle.text.specs.Refusals.{text-refusal, read-refusal, place-of}

@@ -17,12 +17,12 @@ use Rattle.text.specs.declared.faults.ReadFault.{ReadFault}
 use Rattle.text.specs.declared.reader.Reader.{Reader}
 use Rattle.text.specs.declared.reader.State.{State}
 use Rattle.text.specs.declared.reader.State.the-variants.{BeforeProblem, BetweenClauses, InsideClause, Done}
-use Rattle.text.specs.declared.tokens.Tokens.{Tokens}
+use Rattle.tokens.specs.declared.stream.Tokens.{Tokens}
 use Rattle.text.specs.Limits.{most-bytes}
-use Rattle.text.specs.Numbers.{number-word}
+use Rattle.tokens.specs.Numbers.{number-word}
 use Rattle.text.specs.Reading.{Reading, clause, well, refused, Step, on, gives, stops, begun, between, step-piece, at-end, go-on, read, read-on, unread, Ended, Gave, Alike}
-use Rattle.text.specs.Scanning.{coming}
-use Rattle.text.specs.Words.{Piece, word, comment}
+use Rattle.tokens.specs.Scanning.{coming}
+use Rattle.tokens.specs.Words.{Piece, word, comment}
 use Rattle.text.proofs.Steps.{problem-by, clause-by}
 
 -- after a clause no literals are there yet

@@ -1,10 +1,4 @@
 pub mod Limits
-pub mod Numbers
-pub mod Words
-pub mod Scanning
 pub mod Refusals
 pub mod Problem
 pub mod Reading
-pub mod Writing
-pub mod Laws
-pub mod Examples

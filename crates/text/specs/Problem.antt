@@ -18,8 +18,8 @@ use Rattle.text.specs.declared.problem.Expected.the-variants.{ProblemWord, For
 use Rattle.text.specs.declared.problem.Progress.{Progress}
 use Rattle.text.specs.declared.problem.Progress.the-variants.{Expecting, Complete}
 use Rattle.text.specs.Limits.{most-bytes, most-variables, most-clauses}
-use Rattle.text.specs.Numbers.{number-word}
-use Rattle.text.specs.Words.{Piece, word, comment, pieces}
+use Rattle.tokens.specs.Numbers.{number-word}
+use Rattle.tokens.specs.Words.{Piece, word, comment, pieces}
 
 -- a number without minus sign, at most `most`
 abbrev pub within : ℕ → ℕ → Option ℤ → Result ℕ TextFault

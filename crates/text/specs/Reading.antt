@@ -24,12 +24,12 @@ use Rattle.text.specs.declared.problem.Progress.the-variants.{Expecting, Compl
 use Rattle.text.specs.declared.reader.State.{State}
 use Rattle.text.specs.declared.reader.State.the-variants.{BeforeProblem, BetweenClauses, InsideClause, Done}
 use Rattle.text.specs.declared.reader.Reader.{Reader}
-use Rattle.text.specs.declared.tokens.Tokens.{Tokens}
+use Rattle.tokens.specs.declared.stream.Tokens.{Tokens}
 use Rattle.text.specs.Limits.{most-bytes, most-literals}
-use Rattle.text.specs.Numbers.{number-word}
+use Rattle.tokens.specs.Numbers.{number-word}
 use Rattle.text.specs.Problem.{expect}
-use Rattle.text.specs.Scanning.{coming}
-use Rattle.text.specs.Words.{Piece, word, comment, pieces}
+use Rattle.tokens.specs.Scanning.{coming}
+use Rattle.tokens.specs.Words.{Piece, word, comment, pieces}
 
 -- A clause is given with its signed numbers, the place of its ending 0, and
 -- what is read after it. A text ends well, or with a refusal.

@@ -1,10 +1,8 @@
-// Clause texts (DIMACS CNF): what a text says, or where it is wrong. A text
-// is cut into tokens (tokens.rt), whose first four words are the problem line
-// (problem.rt), and the reader (reader.rt) gives its clauses one at a time.
+// Clause texts (DIMACS CNF): what a text says, or where it is wrong. The first
+// four words are the problem line (problem.rt), and the reader (reader.rt)
+// gives the clauses after it one at a time. Words and comments come from the
+// crate `tokens`.
 pub mod faults;
-pub mod laws;
 pub mod limits;
-pub mod numbers;
 pub mod problem;
 pub mod reader;
-pub mod tokens;

@@ -3,8 +3,8 @@
 pub mod calls;
 
 use crate::problem::Expected;
-use crate::tokens::Tokens;
 use table::filled::Filled;
+use tokens::stream::Tokens;
 
 // Where in the text the next word stands. `left` counts the clauses that are
 // still to come, the one that is being read among them.

@@ -1,11 +1,9 @@
 // What can be done with a stretch of filled places.
 ghost use mathlib.Core.Path.{_≡_};
 ghost use mathlib.Core.List.{[]};
-ghost use Prim.Native.Nat.{_<_, _≤_};
-ghost use lib.ListN.{length, getD};
+ghost use lib.ListN.{length};
 ghost use denote.Ref.{name};
-ghost use Rattle.std.specs.Options.{Cases};
-ghost use Rattle.table.specs.Held.{held, beyond, places-of, Pushed};
+ghost use Rattle.table.specs.Held.{held, beyond, places-of, free, Pushed, Stands-at};
 use super::Filled;
 use super::Full;
 
@@ -40,14 +38,14 @@ impl<'a, T: Copy> Filled<'a, T> {
 
     // How many more entries fit.
     pub fn room(&self) -> usize
-        ensures value { λ r. ⌜ r ≡ length (beyond (now (self .entry))) ⌝ }
+        ensures value { λ r. ⌜ r ≡ free (now (self .entry)) ⌝ }
     {
         self.places.len().saturating_sub(self.len)
     }
 
     // The entry at index `i`, if there is one.
     pub fn get(&self, i: usize) -> Option<T>
-        ensures finds { λ r. ⌜ Cases r (length (held (now (self .entry))) ≤ i) (λ x. (i < length (held (now (self .entry)))) × (x ≡ getD (held (now (self .entry))) i x)) ⌝ }
+        ensures finds { λ r. ⌜ Stands-at (held (now (self .entry))) i r ⌝ }
     {
         let entries = self.as_slice();
         if i < entries.len() {

@@ -2,15 +2,15 @@
 ghost use mathlib.Core.Path.{_≡_};
 ghost use Rattle.std.specs.declared.option.Option.the-variants.{Some};
 ghost use Rattle.text.specs.Problem.{within, expect-piece, head-of};
-ghost use Rattle.text.specs.Scanning.{Kind, piece};
+ghost use Rattle.tokens.specs.Scanning.{Kind, piece};
 use super::Expected;
 use super::Progress;
 use crate::faults::TextFault;
 use crate::limits::MOST_BYTES;
 use crate::limits::MOST_CLAUSES;
 use crate::limits::MOST_VARIABLES;
-use crate::tokens::Token;
-use crate::tokens::Tokens;
+use tokens::stream::Token;
+use tokens::stream::Tokens;
 
 // A number without minus sign, at most `most`.
 fn size(number: i32, most: u32, place: usize) -> Result<u32, TextFault>

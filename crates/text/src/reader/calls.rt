@@ -7,7 +7,7 @@ ghost use Rattle.std.specs.declared.option.Option.the-variants.{Some};
 ghost use Rattle.table.specs.Held.{held, places-of};
 ghost use Rattle.text.specs.Problem.{expect-piece};
 ghost use Rattle.text.specs.Reading.{after-problem, begun, clause-word, step-piece, at-end, between, reading, unread, Ended, Gave, Took, Alike};
-ghost use Rattle.text.specs.Scanning.{Kind, piece};
+ghost use Rattle.tokens.specs.Scanning.{Kind, piece};
 use super::Reader;
 use super::State;
 use crate::faults::BookFault;
@@ -18,9 +18,9 @@ use crate::limits::MOST_BYTES;
 use crate::limits::MOST_LITERALS;
 use crate::problem::Expected;
 use crate::problem::Progress;
-use crate::tokens::Token;
-use crate::tokens::Tokens;
 use table::filled::Filled;
+use tokens::stream::Token;
+use tokens::stream::Tokens;
 
 // The state before the first of `left` clauses.
 fn before(variables: u32, left: u32) -> State

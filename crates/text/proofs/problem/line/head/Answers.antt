@@ -5,7 +5,7 @@ use Rattle.std.specs.declared.result.Result.the-variants.{Err}
 use Rattle.std.proofs.shelf.Results.{err-from-errBy}
 use Rattle.std.proofs.shelf.Tests.{cond-false, le-ltb}
 use Rattle.text.specs.Problem.{sizes, go-on}
-use Rattle.text.specs.Scanning.{coming}
+use Rattle.tokens.specs.Scanning.{coming}
 use Rattle.text.proofs.problem.line.head.Needs as need
 
 pub returns-in-Break-next : need.returns-in-Break-next

@@ -2,8 +2,8 @@ use mathlib.Core.Path.{_≡_}
 use lib.ListN.{length}
 use Rattle.text.specs.declared.problem.Expected.the-variants.{ProblemWord}
 use Rattle.text.specs.Problem.{sizes}
-use Rattle.text.specs.Scanning.{coming}
-use Rattle.text.specs.Words.{pieces}
+use Rattle.tokens.specs.Scanning.{coming}
+use Rattle.tokens.specs.Words.{pieces}
 use Rattle.text.proofs.problem.line.head.Given as given
 
 -- what is to come gives the answer

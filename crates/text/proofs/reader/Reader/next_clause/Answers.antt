@@ -7,7 +7,7 @@ use Rattle.std.proofs.shelf.Results.{err-from-errBy}
 use Rattle.table.specs.Held.{held}
 use Rattle.text.specs.Limits.{most-bytes}
 use Rattle.text.specs.Reading.{unread, Gave, Took}
-use Rattle.text.specs.Scanning.{coming, piece}
+use Rattle.tokens.specs.Scanning.{coming, piece}
 use Rattle.text.proofs.Unread.{brought, unread-end, unread-refused, unread-clause, unread-same, ended-gave}
 use Rattle.text.proofs.reader.Reader.next_clause.Needs as need
 

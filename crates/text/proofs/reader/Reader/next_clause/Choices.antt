@@ -3,7 +3,7 @@ use Prim.Native.Nat.{_≤_}
 use lib.ListN.{length}
 use Rattle.text.specs.Limits.{most-bytes}
 use Rattle.text.specs.Reading.{unread}
-use Rattle.text.specs.Scanning.{coming}
+use Rattle.tokens.specs.Scanning.{coming}
 use Rattle.text.proofs.reader.Reader.next_clause.Given as given
 
 -- no clause has ended yet

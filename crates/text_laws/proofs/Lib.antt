@@ -1,0 +1,4 @@
+mod NoFurther
+mod Numerals
+pub mod Sound
+mod WrittenRead

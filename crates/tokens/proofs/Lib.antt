@@ -1,0 +1,4 @@
+mod Digits
+mod Gaps
+pub mod Lines
+mod Spelled
