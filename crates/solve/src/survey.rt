@@ -3,6 +3,7 @@
 ghost use mathlib.Core.Path.{_≡_};
 ghost use Rattle.text.specs.Reading.{reading};
 ghost use Rattle.solve.specs.Answers.{counted, surveyed};
+ghost use Rattle.solve.specs.Words.{Says-so};
 use crate::answer::Answer;
 use text::faults::ReadFault;
 use text::limits::MOST_LITERALS;
@@ -25,8 +26,8 @@ fn count(text: &[u8], variables: u32) -> Result<u32, ReadFault>
     Ok(clauses)
 }
 
-// What the program answers to a text.
-pub fn survey(text: &[u8]) -> Answer
+// The answer, by its definition alone.
+fn examine(text: &[u8]) -> Answer
     ensures value { λ r. ⌜ r ≡ surveyed (now (text .entry)) ⌝ }
 {
     if text.len() > MOST_INPUT {
@@ -55,4 +56,12 @@ pub fn survey(text: &[u8]) -> Answer
             place: fault.place(),
         },
     }
+}
+
+// What the program answers to a text, and what that tells of its words.
+pub fn survey(text: &[u8]) -> Answer
+    ensures value { λ r. ⌜ r ≡ surveyed (now (text .entry)) ⌝ }
+    ensures said { λ r. ⌜ Says-so (now (text .entry)) r ⌝ }
+{
+    examine(text)
 }

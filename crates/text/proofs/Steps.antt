@@ -27,7 +27,7 @@ use Rattle.text.specs.Reading.{Step, on, gives, stops, between, after-problem,
 use Rattle.text.specs.Refusals.{text-refusal, read-refusal, place-of}
 
 -- a number of the problem line is at most `most`, or refused at its place
-number-by : (P : Result ℕ TextFault → Type 0) (most p : ℕ) → ((k : ℕ) → k ≤ most → P (Ok k)) → ((f : TextFault) → place-of (text-refusal f) ≡ p → P (Err f)) → (x : Option ℤ) → P (within most p x)
+pub number-by : (P : Result ℕ TextFault → Type 0) (most p : ℕ) → ((k : ℕ) → k ≤ most → P (Ok k)) → ((f : TextFault) → place-of (text-refusal f) ≡ p → P (Err f)) → (x : Option ℤ) → P (within most p x)
 number-by P most p ok err None = err (NotProblemLine p) refl
 number-by P most p ok err (Some (negsuc k)) = err (NotProblemLine p) refl
 number-by P most p ok err (Some (pos k)) = cond-both (ltb most k) _ _ P (λ _. err (TooLarge p) refl) (λ e. ok k (ltb-false most k e))

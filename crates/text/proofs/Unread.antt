@@ -20,7 +20,7 @@ use Rattle.text.specs.declared.reader.State.the-variants.{BeforeProblem, Betwe
 use Rattle.tokens.specs.declared.stream.Tokens.{Tokens}
 use Rattle.text.specs.Limits.{most-bytes}
 use Rattle.tokens.specs.Numbers.{number-word}
-use Rattle.text.specs.Reading.{Reading, clause, well, refused, Step, on, gives, stops, begun, between, step-piece, at-end, go-on, read, read-on, unread, Ended, Gave, Alike}
+use Rattle.text.specs.Reading.{Reading, clause, refused, Step, on, gives, stops, begun, between, step-piece, brings, at-end, go-on, read, read-on, unread, Ended, Gave, Alike}
 use Rattle.tokens.specs.Scanning.{coming}
 use Rattle.tokens.specs.Words.{Piece, word, comment}
 use Rattle.text.proofs.Steps.{problem-by, clause-by}
@@ -45,10 +45,6 @@ step-rests most limit Done ls (word p w) = tt
 short : (most limit : ℕ) (s : State) (ls : List ℤ) (t : Tokens) → length (now (t .text)) ≤ most-bytes → read-on most limit s ls t ≡ read most limit (length (now (t .text))) s ls (coming t)
 short most limit s ls t h = cond-false _ _ _ (le-ltb most-bytes (length (now (t .text))) h)
 
--- the step that a piece brings to a reader
-abbrev pub brought : Reader → Piece → Step
-brought r x = step-piece (length (places-of (r .literals))) (r .limit) (r .state) (begun (r .state) (held (r .literals))) x
-
 module _ (r : Reader) (h : length (now (r .tokens .text)) ≤ most-bytes) where
   pub unread-end : coming (r .tokens) ≡ [] → unread r ≡ at-end (length (now (r .tokens .text))) (r .state)
   unread-end e = short _ _ _ _ (r .tokens) h ∙ ap (read _ _ _ _ _) e
@@ -57,14 +53,14 @@ module _ (r : Reader) (h : length (now (r .tokens .text)) ≤ most-bytes) where
     abbrev rest : State → List ℤ → Reading
     rest s ls = read (length (places-of (r .literals))) (r .limit) (length (now (r .tokens .text))) s ls (coming t)
 
-    unread-step : unread r ≡ go-on (brought r x) rest
+    unread-step : unread r ≡ go-on (brings r x) rest
     unread-step = short _ _ _ _ (r .tokens) h ∙ ap (read _ _ _ _ _) e
 
-    pub unread-refused : (f : ReadFault) → brought r x ≡ stops f → unread r ≡ refused f
+    pub unread-refused : (f : ReadFault) → brings r x ≡ stops f → unread r ≡ refused f
     unread-refused f b = unread-step ∙ ap (λ s. go-on s rest) b
 
     pub unread-clause : (is : Reader) (ls : List ℤ) (p : ℕ) → now (t .text) ≡ now (r .tokens .text) → is .limit ≡ r .limit → length (places-of (is .literals)) ≡ length (places-of (r .literals))
-        → brought r x ≡ gives ls p (is .state)
+        → brings r x ≡ gives ls p (is .state)
         → unread r ≡ clause ls p (unread (record { tokens = t; limit = is .limit; state = is .state; literals = is .literals }))
     unread-clause is ls p text limit places b =
         let none : begun (is .state) (held (is .literals)) ≡ [] = subst Rests b (step-rests (length (places-of (r .literals))) (r .limit) (r .state) (begun (r .state) (held (r .literals))) x) (held (is .literals)) in

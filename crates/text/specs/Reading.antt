@@ -27,7 +27,7 @@ use Rattle.text.specs.declared.reader.Reader.{Reader}
 use Rattle.tokens.specs.declared.stream.Tokens.{Tokens}
 use Rattle.text.specs.Limits.{most-bytes, most-literals}
 use Rattle.tokens.specs.Numbers.{number-word}
-use Rattle.text.specs.Problem.{expect}
+use Rattle.text.specs.Problem.{expect, expect-piece}
 use Rattle.tokens.specs.Scanning.{coming}
 use Rattle.tokens.specs.Words.{Piece, word, comment, pieces}
 
@@ -126,6 +126,18 @@ read-on most limit s ls tokens =
 abbrev pub unread : Reader → Reading
 unread r =
     read-on (length (places-of (r .literals))) (r .limit) (r .state) (begun (r .state) (held (r .literals))) (r .tokens)
+
+-- the step that a piece brings to a reader
+abbrev pub brings : Reader → Piece → Step
+brings r x = step-piece (length (places-of (r .literals))) (r .limit) (r .state) (begun (r .state) (held (r .literals))) x
+
+-- the step that a word of the problem line brings
+abbrev pub problem-brings : Reader → Expected → Piece → Step
+problem-brings r e x = after-problem (expect-piece (r .limit) e x)
+
+-- the step that a number brings, after the literals that are held
+abbrev pub number-brings : Reader → ℕ → ℕ → ℕ → ℤ → Step
+number-brings r n left p x = clause-word (length (places-of (r .literals))) n left (held (r .literals)) p (Some x)
 
 -- how a text ends, as a call of the reader tells it
 abbrev pub Ended : Reading → Result (Option ℕ) ReadFault → Type 0

@@ -4,32 +4,24 @@ use mathlib.Core.Bool.{true}
 use mathlib.Core.List.{List, [], _∷_, _++_, append-assoc}
 use Prim.Native.Nat.{ℕ, _+_, _≤_, _<_}
 use native.Mathlib.Omega.{arith}
-use lib.Chars.{codes}
-use lib.Dec.{leb, ltb, eqb}
-use lib.IntN.{ℤ, pos, negsuc, natAbs}
+use lib.Dec.{ltb}
+use lib.IntN.{ℤ}
 use lib.ListN.{length, length-append}
-use Rattle.std.specs.declared.option.Option.{Option}
-use Rattle.std.specs.declared.option.Option.the-variants.{Some, None}
-use Rattle.std.specs.declared.result.Result.{Result}
-use Rattle.std.specs.declared.result.Result.the-variants.{Ok, Err}
+use Rattle.std.specs.declared.option.Option.the-variants.{Some}
 use Rattle.std.specs.shelf.Lists.{All}
 use Rattle.std.proofs.shelf.Elements.{all-append}
 use Rattle.std.proofs.shelf.Tests.{le-ltb, cond-false, cond-both}
-use Rattle.text.specs.declared.faults.TextFault.{TextFault}
-use Rattle.text.specs.declared.faults.TextFault.the-variants.{NotProblemLine, TooLarge}
 use Rattle.text.specs.declared.faults.ReadFault.{ReadFault}
-use Rattle.text.specs.declared.problem.Expected.{Expected}
-use Rattle.text.specs.declared.problem.Expected.the-variants.{ProblemWord, FormatWord, Variables, Clauses}
+use Rattle.text.specs.declared.problem.Expected.the-variants.{ProblemWord}
 use Rattle.text.specs.declared.reader.State.{State}
 use Rattle.text.specs.declared.reader.State.the-variants.{BeforeProblem, BetweenClauses, InsideClause, Done}
 use Rattle.text_laws.specs.Laws.{Apart, Refusal-looks-no-further}
-use Rattle.text.specs.Limits.{most-bytes, most-clauses, most-literals}
+use Rattle.text.specs.Limits.{most-bytes, most-literals}
 use Rattle.tokens.specs.Numbers.{number-word}
-use Rattle.text.specs.Problem.{within, then-clauses, then-complete, expect}
-use Rattle.text.specs.Reading.{Reading, clause, well, refused, fault-of, Step, on, gives, stops, after-problem, clause-word, step, at-end, go-on, read, reading}
-use Rattle.text.specs.Refusals.{text-refusal, read-refusal, place-of}
-use Rattle.tokens.specs.Scanning.{Mode, gap, in-word, in-comment, opens-comment, next-mode, ended, unended, scan}
-use Rattle.std.specs.shelf.Text.{sameBytes}
+use Rattle.text.specs.Reading.{Reading, clause, well, refused, fault-of, Step, on, gives, stops, step, at-end, go-on, read, reading}
+use Rattle.text.specs.Refusals.{read-refusal, place-of}
+use Rattle.tokens.specs.declared.stream.Part.the-variants.{Word, Line}
+use Rattle.tokens.specs.Scanning.{Mode, gap, inside, opens-comment, next-mode, ended, unended, scan}
 use Rattle.tokens.specs.Words.{Piece, word, comment, parts-words, ends-line, early-after}
 use Rattle.tokens.proofs.Lines.{scan-by-lines}
 use Rattle.text.proofs.Steps.{problem-by, clause-by}
@@ -101,24 +93,24 @@ module _ (most limit q end : ℕ) (before-end : q ≤ end) where
 module _ (q : ℕ) where
   abbrev Opened-later : Mode → Type 0
   Opened-later (gap early fresh) = Unit {0}
-  Opened-later (in-word early s w) = q ≤ s
-  Opened-later (in-comment early s w) = Unit {0}
+  Opened-later (inside Word early s w) = q ≤ s
+  Opened-later (inside Line early s w) = Unit {0}
 
   next-later : (m : Mode) (p b : ℕ) → q ≤ p → Opened-later m → Opened-later (next-mode m p b)
   next-later (gap early fresh) p b h o =
-      cond-both (parts-words b) _ _ Opened-later (λ _. tt) (λ _. cond-both (opens-comment early fresh b) _ _ Opened-later (λ _. tt) (λ _. h))
-  next-later (in-word early s w) p b h o = cond-both (parts-words b) _ _ Opened-later (λ _. tt) (λ _. o)
-  next-later (in-comment early s w) p b h o = cond-both (ends-line b) _ _ Opened-later (λ _. tt) (λ _. tt)
+      cond-both (parts-words b) _ _ Opened-later (λ _. tt) (λ _. cond-both (opens-comment early fresh b) Line Word (λ part. Opened-later (inside part early p (b ∷ []))) (λ _. tt) (λ _. h))
+  next-later (inside Word early s w) p b h o = cond-both (parts-words b) _ _ Opened-later (λ _. tt) (λ _. o)
+  next-later (inside Line early s w) p b h o = cond-both (ends-line b) _ _ Opened-later (λ _. tt) (λ _. tt)
 
   ended-later : (m : Mode) (b : ℕ) → Opened-later m → All (Later q) (ended m b)
   ended-later (gap early fresh) b o = tt
-  ended-later (in-word early s w) b o = cond-both (parts-words b) _ _ (All (Later q)) (λ _. (o, tt)) (λ _. tt)
-  ended-later (in-comment early s w) b o = cond-both (ends-line b) _ _ (All (Later q)) (λ _. (tt, tt)) (λ _. tt)
+  ended-later (inside Word early s w) b o = cond-both (parts-words b) _ _ (All (Later q)) (λ _. (o, tt)) (λ _. tt)
+  ended-later (inside Line early s w) b o = cond-both (ends-line b) _ _ (All (Later q)) (λ _. (tt, tt)) (λ _. tt)
 
   unended-later : (m : Mode) → Opened-later m → All (Later q) (unended m)
   unended-later (gap early fresh) o = tt
-  unended-later (in-word early s w) o = (o, tt)
-  unended-later (in-comment early s w) o = (tt, tt)
+  unended-later (inside Word early s w) o = (o, tt)
+  unended-later (inside Line early s w) o = (tt, tt)
 
   scan-later : (m : Mode) (p : ℕ) (bs : List ℕ) → q ≤ p → Opened-later m → All (Later q) (scan m p bs)
   scan-later m p [] h o = unended-later m o
@@ -129,8 +121,8 @@ module _ (q : ℕ) where
 -- what a scan gives of a text's front, whose last word ends there; a comment may go on
 abbrev open-word : Mode → List Piece
 open-word (gap early fresh) = []
-open-word (in-word early s w) = word s w ∷ []
-open-word (in-comment early s w) = []
+open-word (inside Word early s w) = word s w ∷ []
+open-word (inside Line early s w) = []
 
 abbrev of-front : Mode → ℕ → List ℕ → List Piece
 of-front m p [] = open-word m
@@ -142,9 +134,9 @@ Parted q ps all = (more : List Piece) × (all ≡ ps ++ more) × All (Later q) m
 
 part-here : (q : ℕ) (m : Mode) (p : ℕ) (back : List ℕ) → Apart back → q ≤ p → Parted q (open-word m) (scan m p back)
 part-here q (gap early fresh) p back apart h = (_, refl, scan-later q (gap early fresh) p back h tt)
-part-here q (in-comment early s w) p back apart h = (_, refl, scan-later q (in-comment early s w) p back h tt)
-part-here q (in-word early s w) p [] apart h = ([], refl, tt)
-part-here q (in-word early s w) p (b ∷ bs) apart h =
+part-here q (inside Line early s w) p back apart h = (_, refl, scan-later q (inside Line early s w) p back h tt)
+part-here q (inside Word early s w) p [] apart h = ([], refl, tt)
+part-here q (inside Word early s w) p (b ∷ bs) apart h =
     let after = gap (early-after early w) (ends-line b) in
     (scan after (p + 1) bs, rw apart, scan-later q after (p + 1) bs (omega arith) tt)
 

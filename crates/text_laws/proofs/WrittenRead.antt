@@ -16,7 +16,8 @@ use Rattle.std.proofs.shelf.Ways.{tells}
 use Rattle.text_laws.specs.Laws.{Written-is-read, Written-has-its-head}
 use Rattle.text.specs.Limits.{most-bytes, most-variables, most-literals}
 use Rattle.tokens.specs.Numbers.{is-digit, all-digits}
-use Rattle.tokens.specs.Scanning.{scan, gap, in-word}
+use Rattle.tokens.specs.declared.stream.Part.the-variants.{Word}
+use Rattle.tokens.specs.Scanning.{scan, gap, inside}
 use Rattle.tokens.specs.Words.{pieces, words-of, parts-words, ends-line}
 use Rattle.text_laws.specs.Writing.{Literal, Writable, clause-words, clause-line, saying, written}
 use Rattle.tokens.proofs.Lines.{scan-by-lines}
@@ -51,7 +52,7 @@ Are-words bs ws = (fresh : Bool) (p : ℕ) → words-of (scan (gap false fresh) 
 
 -- a scan inside a word, of which v is left, gives it at the byte b that ends it
 rest-of-word : (s p : ℕ) (w v : List ℕ) (b : ℕ) (rest : List ℕ) (ws : List (List ℕ)) → Inner v → parts-words b ≡ true → Are-words rest ws
-    → words-of (scan (in-word false s w) p (v ++ b ∷ rest)) ≡ (w ++ v) ∷ ws
+    → words-of (scan (inside Word false s w) p (v ++ b ∷ rest)) ≡ (w ++ v) ∷ ws
 rest-of-word s p w [] b rest ws i h more = rw (h, append-nil, more (ends-line b) (p + 1))
 rest-of-word s p w (c ∷ v) b rest ws i h more = rw (i .0, ← append-assoc w (c ∷ []) v) (rest-of-word s (p + 1) (w ++ c ∷ []) v b rest ws (i .1) h more)
 

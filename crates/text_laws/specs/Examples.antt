@@ -5,13 +5,14 @@ use Prim.Native.Nat.{ℕ}
 use lib.Chars.{codes}
 use lib.IntN.{ℤ, pos, negsuc}
 use lib.ListN.{replicate}
+use Rattle.std.specs.Joined.{joined}
 use Rattle.std.specs.declared.option.Option.{Option}
 use Rattle.std.specs.declared.option.Option.the-variants.{Some, None}
 use Rattle.std.specs.declared.result.Result.the-variants.{Ok, Err}
 use Rattle.text.specs.declared.faults.TextFault.the-variants.{TooLarge}
 use Rattle.tokens.specs.Numbers.{number-word}
 use Rattle.text.specs.Problem.{head-of}
-use Rattle.text.specs.Reading.{Reading, reading, clauses-of, fault-of}
+use Rattle.text.specs.Reading.{reading, clauses-of, fault-of}
 use Rattle.text.specs.Refusals.{Refusal, refusal, the-text, the-book, told}
 
 abbrev pub Number-words : Type 0
@@ -39,6 +40,13 @@ Sound-texts =
     × Reads (codes "p cnf 0 0") [] None
     × Reads (codes "p cnf 0 1 0") ([] ∷ []) None
     × (head-of (lined (codes "c" ∷ codes "p cnf 3 99" ∷ [])) ≡ Ok (3, 99))
+
+-- a clause of k literals, repeats counted
+abbrev pub repeated : ℕ → List ℕ
+repeated k = codes "p cnf 1 1" ++ (joined (λ w. w) (replicate k (codes " 1")) ++ codes " 0")
+
+abbrev pub Long-clauses : Type 0
+Long-clauses = Reads (repeated 128) (replicate 128 (pos 1) ∷ []) None × Reads (repeated 129) [] (Some (refusal the-book 6 266))
 
 -- refusals, with their places and the clauses before them
 abbrev pub Faulty-texts : Type 0

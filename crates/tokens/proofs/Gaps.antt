@@ -1,6 +1,6 @@
 -- A scan that goes on by one byte: in a gap, in a word, in a comment. Assumes nothing.
-use mathlib.Core.Path.{_≡_, refl, sym, _∙_, ap}
-use mathlib.Core.Bool.{Bool, true, false, cond}
+use mathlib.Core.Path.{_≡_, sym, _∙_, ap}
+use mathlib.Core.Bool.{Bool, true, false}
 use mathlib.Core.List.{List, [], _∷_, _++_}
 use Prim.Native.Nat.{ℕ, _+_, _-_, _≤_, _<_}
 use native.Mathlib.Omega.{arith}
@@ -9,8 +9,10 @@ use lib.ListN.{length, getD, take, drop}
 use Rattle.std.proofs.shelf.Lists.{drop-more, drop-all, take-more, getD-drop, length-drop}
 use Rattle.std.proofs.shelf.Tests.{ne-eqb}
 use Rattle.std.proofs.shelf.Ways.{tells}
-use Rattle.tokens.specs.Words.{Piece, word, comment, parts-words, ends-line, early-after}
-use Rattle.tokens.specs.Scanning.{Mode, gap, in-word, in-comment, next-mode, ended, unended, scan, begins-line, part, pieces-from, opens-comment}
+use Rattle.tokens.specs.declared.stream.Part.{Part}
+use Rattle.tokens.specs.declared.stream.Part.the-variants.{Word, Line}
+use Rattle.tokens.specs.Words.{parts-words, ends-line}
+use Rattle.tokens.specs.Scanning.{Mode, gap, inside, part-ends, piece-of, early-past-part, opened, unended, scan, begins-line, span, pieces-from}
 
 -- after the byte at p, the next place begins a line if that byte is LF
 next-line : (t : List ℕ) (p : ℕ) → begins-line t (p + 1) ≡ ends-line (getD t p 0)
@@ -19,16 +21,18 @@ next-line t p =
     let back : p + 1 - 1 ≡ p = omega arith in
     simp (no, back)
 
--- LF parts words too
-lf-parts : (b : ℕ) → ends-line b ≡ true → parts-words b ≡ true
-lf-parts b y = grind (arith, tells)
+-- a byte that ends a part, as LF a comment, parts words
+ends-parts : (part : Part) (b : ℕ) → part-ends part b ≡ true → parts-words b ≡ true
+ends-parts Word b y = y
+ends-parts Line b y = grind (arith, tells)
 
-no-lf : (b : ℕ) → parts-words b ≡ false → ends-line b ≡ false
-no-lf b y = grind (arith, tells)
+no-end : (part : Part) (b : ℕ) → parts-words b ≡ false → part-ends part b ≡ false
+no-end Word b y = y
+no-end Line b y = grind (arith, tells)
 
 -- the bytes from `from` to p, and the one at p
-pub part-more : (t : List ℕ) (from p : ℕ) → from ≤ p → p < length t → part t from (p + 1) ≡ part t from p ++ getD t p 0 ∷ []
-part-more t from p h l =
+pub span-more : (t : List ℕ) (from p : ℕ) → from ≤ p → p < length t → span t from (p + 1) ≡ span t from p ++ getD t p 0 ∷ []
+span-more t from p h l =
     let more : p + 1 - from ≡ p - from + 1 = omega arith in
     let here : from + (p - from) ≡ p = omega arith in
     ap (λ k. take k (drop from t)) more
@@ -40,22 +44,15 @@ module _ (p b : ℕ) (bs : List ℕ) (early : Bool) where
   gap-byte : (fresh : Bool) → parts-words b ≡ true → scan (gap early fresh) p (b ∷ bs) ≡ scan (gap early (ends-line b)) (p + 1) bs
   gap-byte fresh y = simp y
 
-  word-byte : (s : ℕ) (w : List ℕ) → parts-words b ≡ false → scan (in-word early s w) p (b ∷ bs) ≡ scan (in-word early s (w ++ b ∷ [])) (p + 1) bs
-  word-byte s w y = simp y
+  part-byte : (part : Part) (s : ℕ) (w : List ℕ) → part-ends part b ≡ false → scan (inside part early s w) p (b ∷ bs) ≡ scan (inside part early s (w ++ b ∷ [])) (p + 1) bs
+  part-byte part s w y = simp y
 
-  word-gap : (s : ℕ) (w : List ℕ) (fresh : Bool) → parts-words b ≡ true → scan (in-word early s w) p (b ∷ bs) ≡ word s w ∷ scan (gap (early-after early w) fresh) p (b ∷ bs)
-  word-gap s w fresh y = simp y
+  part-gap : (part : Part) (s : ℕ) (w : List ℕ) (fresh : Bool) → part-ends part b ≡ true → scan (inside part early s w) p (b ∷ bs) ≡ piece-of part s w ∷ scan (gap (early-past-part part early w) fresh) p (b ∷ bs)
+  part-gap part s w fresh y = let parts = ends-parts part b y in simp parts (simp y)
 
-  comment-byte : (s : ℕ) (w : List ℕ) → ends-line b ≡ false → scan (in-comment early s w) p (b ∷ bs) ≡ scan (in-comment early s (w ++ b ∷ [])) (p + 1) bs
-  comment-byte s w y = simp y
-
-  comment-gap : (s : ℕ) (w : List ℕ) (fresh : Bool) → ends-line b ≡ true → scan (in-comment early s w) p (b ∷ bs) ≡ comment s w ∷ scan (gap early fresh) p (b ∷ bs)
-  comment-gap s w fresh y = let lf = lf-parts b y in simp lf (simp y)
-
-  -- in a gap, a byte that parts no words opens a comment or a word
-  gap-opens : (fresh o : Bool) → parts-words b ≡ false → opens-comment early fresh b ≡ o → scan (gap early fresh) p (b ∷ bs) ≡ scan (cond o (in-comment early p []) (in-word early p [])) p (b ∷ bs)
-  gap-opens fresh true y e = let no = no-lf b y in simp (y, e) (simp no)
-  gap-opens fresh false y e = simp (y, e)
+  -- in a gap, a byte that parts no words opens a part
+  gap-opens : (fresh : Bool) (part : Part) → parts-words b ≡ false → opened early fresh b ≡ part → scan (gap early fresh) p (b ∷ bs) ≡ scan (inside part early p []) p (b ∷ bs)
+  gap-opens fresh part y e = let no = no-end part b y in simp (y, e) (simp no)
 
 module _ (t : List ℕ) (p : ℕ) (h : p < length t) (early : Bool) where
   pub gap-more : parts-words (getD t p 0) ≡ true → pieces-from early t (p + 1) ≡ pieces-from early t p
@@ -63,30 +60,20 @@ module _ (t : List ℕ) (p : ℕ) (h : p < length t) (early : Bool) where
       ap (λ f. scan (gap early f) (p + 1) (drop (p + 1) t)) (next-line t p)
       ∙ sym (ap (scan (gap early (begins-line t p)) p) (drop-more t p 0 h) ∙ gap-byte p (getD t p 0) (drop (p + 1) t) early (begins-line t p) y)
 
-  pub gap-stop : (o : Bool) → parts-words (getD t p 0) ≡ false → opens-comment early (begins-line t p) (getD t p 0) ≡ o → pieces-from early t p ≡ scan (cond o (in-comment early p []) (in-word early p [])) p (drop p t)
-  gap-stop o y e =
-      rw (drop-more t p 0 h) (gap-opens p (getD t p 0) (drop (p + 1) t) early (begins-line t p) o y e)
+  pub gap-stop : (part : Part) → parts-words (getD t p 0) ≡ false → opened early (begins-line t p) (getD t p 0) ≡ part → pieces-from early t p ≡ scan (inside part early p []) p (drop p t)
+  gap-stop part y e = rw (drop-more t p 0 h) (gap-opens p (getD t p 0) (drop (p + 1) t) early (begins-line t p) part y e)
 
-  module _ (s : ℕ) (w : List ℕ) where
-    pub word-more : parts-words (getD t p 0) ≡ false → scan (in-word early s (w ++ getD t p 0 ∷ [])) (p + 1) (drop (p + 1) t) ≡ scan (in-word early s w) p (drop p t)
-    word-more y = sym (ap (scan (in-word early s w) p) (drop-more t p 0 h) ∙ word-byte p (getD t p 0) (drop (p + 1) t) early s w y)
+  pub part-more : (part : Part) (s : ℕ) (w : List ℕ) → part-ends part (getD t p 0) ≡ false → scan (inside part early s (w ++ getD t p 0 ∷ [])) (p + 1) (drop (p + 1) t) ≡ scan (inside part early s w) p (drop p t)
+  part-more part s w y = sym (ap (scan (inside part early s w) p) (drop-more t p 0 h) ∙ part-byte p (getD t p 0) (drop (p + 1) t) early part s w y)
 
-    pub word-stop : parts-words (getD t p 0) ≡ true → scan (in-word early s w) p (drop p t) ≡ word s w ∷ pieces-from (early-after early w) t p
-    word-stop y = rw (drop-more t p 0 h) (word-gap p (getD t p 0) (drop (p + 1) t) early s w (begins-line t p) y)
-
-    pub comment-more : ends-line (getD t p 0) ≡ false → scan (in-comment early s (w ++ getD t p 0 ∷ [])) (p + 1) (drop (p + 1) t) ≡ scan (in-comment early s w) p (drop p t)
-    comment-more y = sym (ap (scan (in-comment early s w) p) (drop-more t p 0 h) ∙ comment-byte p (getD t p 0) (drop (p + 1) t) early s w y)
-
-    pub comment-stop : ends-line (getD t p 0) ≡ true → scan (in-comment early s w) p (drop p t) ≡ comment s w ∷ pieces-from early t p
-    comment-stop y = rw (drop-more t p 0 h) (comment-gap p (getD t p 0) (drop (p + 1) t) early s w (begins-line t p) y)
+  pub part-stop : (part : Part) (s : ℕ) (w : List ℕ) → part-ends part (getD t p 0) ≡ true → scan (inside part early s w) p (drop p t) ≡ piece-of part s w ∷ pieces-from (early-past-part part early w) t p
+  part-stop part s w y = rw (drop-more t p 0 h) (part-gap p (getD t p 0) (drop (p + 1) t) early part s w (begins-line t p) y)
 
 -- at the end of the text
 module _ (t : List ℕ) (p : ℕ) (h : length t ≤ p) where
   pub scan-end : (m : Mode) → scan m p (drop p t) ≡ unended m
   scan-end m = ap (scan m p) (drop-all p t h)
 
-  pub word-ends : (early : Bool) (s : ℕ) (w : List ℕ) → scan (in-word early s w) p (drop p t) ≡ word s w ∷ pieces-from (early-after early w) t p
-  word-ends early s w = scan-end (in-word early s w) ∙ ap (λ ps. word s w ∷ ps) (sym (scan-end (gap (early-after early w) (begins-line t p))))
-
-  pub comment-ends : (early : Bool) (s : ℕ) (w : List ℕ) → scan (in-comment early s w) p (drop p t) ≡ comment s w ∷ pieces-from early t p
-  comment-ends early s w = scan-end (in-comment early s w) ∙ ap (λ ps. comment s w ∷ ps) (sym (scan-end (gap early (begins-line t p))))
+  pub part-done : (early : Bool) (part : Part) (s : ℕ) (w : List ℕ) → scan (inside part early s w) p (drop p t) ≡ piece-of part s w ∷ pieces-from (early-past-part part early w) t p
+  part-done early part s w =
+      scan-end (inside part early s w) ∙ ap (λ ps. piece-of part s w ∷ ps) (sym (scan-end (gap (early-past-part part early w) (begins-line t p))))

@@ -9,7 +9,8 @@ use lib.ListN.{getD}
 use Rattle.std.proofs.shelf.Lists.{append-nil}
 use Rattle.std.proofs.shelf.Tests.{eqb-true, and-right}
 use Rattle.std.proofs.shelf.Ways.{tells}
-use Rattle.tokens.specs.Scanning.{Mode, gap, in-word, in-comment, opens-comment, next-mode, ended, unended, scan}
+use Rattle.tokens.specs.declared.stream.Part.the-variants.{Word, Line}
+use Rattle.tokens.specs.Scanning.{Mode, gap, inside, opens-comment, next-mode, ended, unended, scan}
 use Rattle.tokens.specs.Words.{Stretch, at, Piece, word, comment, cut, stretches, lines, parts-words, ends-line, words, filled-words, early-after, early-past, pieces-of-lines}
 
 -- a word that began at s with the bytes w goes on into the first stretch
@@ -20,14 +21,14 @@ lengthened s w (at p v ∷ ss) = word s (w ++ v) ∷ filled-words ss
 -- comments may come, the word that is being scanned not counted
 abbrev early-in : Mode → Bool
 early-in (gap early fresh) = early
-early-in (in-word early s w) = early
-early-in (in-comment early s w) = early
+early-in (inside Word early s w) = early
+early-in (inside Line early s w) = early
 
 -- the pieces that a scan gives on its line, of which the bytes l at the place p are left
 abbrev on-line : Mode → ℕ → List ℕ → List Piece
 on-line (gap early fresh) p l = cond (opens-comment early fresh (getD l 0 0)) (comment p l ∷ []) (words p l)
-on-line (in-word early s w) p l = lengthened s w (stretches parts-words p l)
-on-line (in-comment early s w) p l = comment s (w ++ l) ∷ []
+on-line (inside Word early s w) p l = lengthened s w (stretches parts-words p l)
+on-line (inside Line early s w) p l = comment s (w ++ l) ∷ []
 
 -- the pieces ps, and those of the lines after them
 abbrev then-lines : Bool → List Piece → List Stretch → List Piece
@@ -54,17 +55,17 @@ begun p b (at q v ∷ ss) = refl
 -- at the end of a line or of the text only the piece that ends there is left
 nothing-left : (m : Mode) (p : ℕ) → on-line m p [] ≡ unended m
 nothing-left (gap early fresh) p = rw (no-comment early fresh 0 refl)
-nothing-left (in-word early s w) p = rw append-nil
-nothing-left (in-comment early s w) p = rw append-nil
+nothing-left (inside Word early s w) p = rw append-nil
+nothing-left (inside Line early s w) p = rw append-nil
 
 -- the byte LF: the piece ends, and a line begins
 line-ends : (m : Mode) (p q : ℕ) (l : List ℕ) (ls : List Stretch) → ended m 10 ++ by-lines (next-mode m p 10) (at q l ∷ ls) ≡ then-lines (early-in m) (unended m) (at q l ∷ ls)
 line-ends (gap early fresh) p q l ls = refl
-line-ends (in-word early s w) p q l ls = refl
-line-ends (in-comment early s w) p q l ls = refl
+line-ends (inside Word early s w) p q l ls = refl
+line-ends (inside Line early s w) p q l ls = refl
 
 -- any other byte b belongs to the line, before its rest l
-module _ (p b : ℕ) (l : List ℕ) (ls : List Stretch) (inside : ends-line b ≡ false) where
+module _ (p b : ℕ) (l : List ℕ) (ls : List Stretch) (same-line : ends-line b ≡ false) where
   abbrev Goes-on : Mode → Type 0
   Goes-on m = ended m b ++ by-lines (next-mode m p b) (at (p + 1) l ∷ ls) ≡ by-lines m (at p (b ∷ l) ∷ ls)
 
@@ -73,11 +74,11 @@ module _ (p b : ℕ) (l : List ℕ) (ls : List Stretch) (inside : ends-line b �
   in-gap early fresh e false o = rw (e, o, begun)
 
   line-goes-on : (m : Mode) (t : Bool) → parts-words b ≡ t → Goes-on m
-  line-goes-on (gap early fresh) true e = rw (e, inside, no-comment early fresh b (grind (arith, tells)), and-right early false refl)
+  line-goes-on (gap early fresh) true e = rw (e, same-line, no-comment early fresh b (grind (arith, tells)), and-right early false refl)
   line-goes-on (gap early fresh) false e = in-gap early fresh e (opens-comment early fresh b) refl
-  line-goes-on (in-word early s w) true e = rw (e, inside, append-nil, and-right (early-after early w) false refl)
-  line-goes-on (in-word early s w) false e = rw (e, longer s p b w)
-  line-goes-on (in-comment early s w) t e = rw (inside, append-assoc)
+  line-goes-on (inside Word early s w) true e = rw (e, same-line, append-nil, and-right (early-after early w) false refl)
+  line-goes-on (inside Word early s w) false e = rw (e, longer s p b w)
+  line-goes-on (inside Line early s w) t e = rw (same-line, append-assoc)
 
 -- stretches begin where the bytes do
 abbrev Begins : ℕ → List Stretch → Type 0

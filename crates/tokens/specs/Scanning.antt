@@ -12,42 +12,56 @@ use denote.Ref.{now}
 use Rattle.std.specs.shelf.Text.{sameBytes}
 use Rattle.std.specs.declared.option.Option.{Option}
 use Rattle.std.specs.declared.option.Option.the-variants.{Some, None}
+use Rattle.tokens.specs.declared.stream.Part.{Part}
+use Rattle.tokens.specs.declared.stream.Part.the-variants.{Word, Line}
 use Rattle.tokens.specs.declared.stream.Token.{Token}
 use Rattle.tokens.specs.declared.stream.Token.the-variants.{Number, Problem, Format, Comment, Other}
 use Rattle.tokens.specs.declared.stream.Tokens.{Tokens}
 use Rattle.tokens.specs.Numbers.{number-word}
 use Rattle.tokens.specs.Words.{Piece, word, comment, parts-words, ends-line, early-after}
 
+-- a word ends at a byte that parts words, a comment at the end of its line
+abbrev pub part-ends : Part → ℕ → Bool
+part-ends Word b = parts-words b
+part-ends Line b = ends-line b
+
+abbrev pub piece-of : Part → ℕ → List ℕ → Piece
+piece-of Word p w = word p w
+piece-of Line p w = comment p w
+
+-- comments may still come after it
+abbrev pub early-past-part : Part → Bool → List ℕ → Bool
+early-past-part Word early w = early-after early w
+early-past-part Line early w = early
+
 -- Where a scan stands: in a gap, `early` while comments may come and `fresh` at
--- a line's first byte; or in a word or a comment that began at a place, with
--- the bytes so far.
+-- a line's first byte; or inside a word or a comment that began at a place,
+-- with the bytes so far.
 pub data Mode : Type 0 where
   gap : Bool → Bool → Mode
-  in-word : Bool → ℕ → List ℕ → Mode
-  in-comment : Bool → ℕ → List ℕ → Mode
+  inside : Part → Bool → ℕ → List ℕ → Mode
 
 abbrev pub opens-comment : Bool → Bool → ℕ → Bool
 opens-comment early fresh b = early && (fresh && eqb b 99)
 
+abbrev pub opened : Bool → Bool → ℕ → Part
+opened early fresh b = cond (opens-comment early fresh b) Line Word
+
 -- where it stands after the byte b at the place p
 abbrev pub next-mode : Mode → ℕ → ℕ → Mode
-next-mode (gap early fresh) p b =
-    cond (parts-words b) (gap early (ends-line b))
-    (cond (opens-comment early fresh b) (in-comment early p (b ∷ [])) (in-word early p (b ∷ [])))
-next-mode (in-word early s w) p b = cond (parts-words b) (gap (early-after early w) (ends-line b)) (in-word early s (w ++ b ∷ []))
-next-mode (in-comment early s w) p b = cond (ends-line b) (gap early true) (in-comment early s (w ++ b ∷ []))
+next-mode (gap early fresh) p b = cond (parts-words b) (gap early (ends-line b)) (inside (opened early fresh b) early p (b ∷ []))
+next-mode (inside part early s w) p b =
+    cond (part-ends part b) (gap (early-past-part part early w) (ends-line b)) (inside part early s (w ++ b ∷ []))
 
 -- the piece that the byte b ends, if it ends one
 abbrev pub ended : Mode → ℕ → List Piece
 ended (gap early fresh) b = []
-ended (in-word early s w) b = cond (parts-words b) (word s w ∷ []) []
-ended (in-comment early s w) b = cond (ends-line b) (comment s w ∷ []) []
+ended (inside part early s w) b = cond (part-ends part b) (piece-of part s w ∷ []) []
 
 -- the piece that the end of the text ends
 abbrev pub unended : Mode → List Piece
 unended (gap early fresh) = []
-unended (in-word early s w) = word s w ∷ []
-unended (in-comment early s w) = comment s w ∷ []
+unended (inside part early s w) = piece-of part s w ∷ []
 
 abbrev pub scan : Mode → ℕ → List ℕ → List Piece
 scan m p [] = unended m
@@ -58,24 +72,21 @@ abbrev pub begins-line : List ℕ → ℕ → Bool
 begins-line text p = eqb p 0 || eqb (getD text (p - 1) 0) 10
 
 -- the bytes from the place p up to the place e
-abbrev pub part : List ℕ → ℕ → ℕ → List ℕ
-part text p e = take (e - p) (drop p text)
+abbrev pub span : List ℕ → ℕ → ℕ → List ℕ
+span text p e = take (e - p) (drop p text)
 
 -- the pieces from the place p on, where p stands in no word and in no comment
 abbrev pub pieces-from : Bool → List ℕ → ℕ → List Piece
 pieces-from early text p = scan (gap early (begins-line text p)) p (drop p text)
 
+-- the part that begins at the place p ends at the place e
+abbrev pub Ends : Part → List ℕ → ℕ → ℕ → Type 0
+Ends part text p e =
+    (early : Bool) → scan (inside part early p []) p (drop p text) ≡ piece-of part p (span text p e) ∷ pieces-from (early-past-part part early (span text p e)) text e
+
 -- the pieces that are still to come
 abbrev pub coming : Tokens → List Piece
 coming t = pieces-from (t .early) (now (t .text)) (t .at)
-
--- the bytes of the text that a token is
-abbrev pub bytes-of : Token → List ℕ
-bytes-of (Number w x) = now w
-bytes-of (Problem w) = now w
-bytes-of (Format w) = now w
-bytes-of (Comment w) = now w
-bytes-of (Other w) = now w
 
 -- the piece that a token at a place stands for
 abbrev pub piece : ℕ → Token → Piece

@@ -15,6 +15,13 @@ pub enum Token<'a> {
     Other(&'a [u8]),
 }
 
+// What can begin after a gap: a word, or a comment, which is a whole line.
+#[derive(Clone, Copy)]
+pub enum Part {
+    Word,
+    Line,
+}
+
 // How far a text has been cut into tokens. `early`: no word p was among them,
 // so a line that begins with c is a comment.
 #[derive(Clone, Copy)]

@@ -1,13 +1,9 @@
 // Reading a text, clause by clause.
 ghost use mathlib.Core.Path.{_≡_};
-ghost use mathlib.Core.Bool.{true, false};
-ghost use Prim.Native.Nat.{ℕ};
 ghost use lib.ListN.{length};
-ghost use Rattle.std.specs.declared.option.Option.the-variants.{Some};
-ghost use Rattle.table.specs.Held.{held, places-of};
-ghost use Rattle.text.specs.Problem.{expect-piece};
-ghost use Rattle.text.specs.Reading.{after-problem, begun, clause-word, step-piece, at-end, between, reading, unread, Ended, Gave, Took, Alike};
+ghost use Rattle.table.specs.Held.{held};
 ghost use Rattle.tokens.specs.Scanning.{Kind, piece};
+ghost use Rattle.text.specs.Reading.{at-end, between, brings, problem-brings, number-brings, reading, unread, Ended, Gave, Took, Alike};
 use super::Reader;
 use super::State;
 use crate::faults::BookFault;
@@ -63,7 +59,7 @@ impl<'t, 'p> Reader<'t, 'p> {
     ) -> Result<bool, ReadFault>
         requires { ⌜ Kind token ⌝ }
         ensures alike { λ _. ⌜ Alike (now (self .entry)) (now (self .exit)) ⌝ }
-        ensures took { λ r. ⌜ Took (after-problem (expect-piece (now (self .entry) .limit) expected (piece place (token .entry)))) place r (now (self .entry)) (now (self .exit)) ⌝ }
+        ensures took { λ r. ⌜ Took (problem-brings (now (self .entry)) expected (piece place (token .entry))) place r (now (self .entry)) (now (self .exit)) ⌝ }
     {
         self.state = match expected.take(self.limit, place, token)? {
             Progress::Expecting(next) => State::BeforeProblem(next),
@@ -76,7 +72,7 @@ impl<'t, 'p> Reader<'t, 'p> {
     // clause are held. True: it ended the clause.
     fn number(&mut self, variables: u32, left: u32, place: usize, x: i32) -> Result<bool, ReadFault>
         ensures alike { λ _. ⌜ Alike (now (self .entry)) (now (self .exit)) ⌝ }
-        ensures took { λ r. ⌜ Took (clause-word (length (places-of (now (self .entry) .literals))) variables left (held (now (self .entry) .literals)) place (Some x)) place r (now (self .entry)) (now (self .exit)) ⌝ }
+        ensures took { λ r. ⌜ Took (number-brings (now (self .entry)) variables left place x) place r (now (self .entry)) (now (self .exit)) ⌝ }
     {
         let size = x.unsigned_abs();
         if size == 0 {
@@ -99,40 +95,21 @@ impl<'t, 'p> Reader<'t, 'p> {
     fn take(&mut self, place: usize, token: Token<'_>) -> Result<bool, ReadFault>
         requires { ⌜ Kind token ⌝ }
         ensures alike { λ _. ⌜ Alike (now (self .entry)) (now (self .exit)) ⌝ }
-        ensures took { λ r. ⌜ Took (step-piece (length (places-of (now (self .entry) .literals))) (now (self .entry) .limit) (now (self .entry) .state) (begun (now (self .entry) .state) (held (now (self .entry) .literals))) (piece place (token .entry))) place r (now (self .entry)) (now (self .exit)) ⌝ }
+        ensures took { λ r. ⌜ Took (brings (now (self .entry)) (piece place (token .entry))) place r (now (self .entry)) (now (self .exit)) ⌝ }
     {
         match (self.state, token) {
             (_, Token::Comment(_)) => Ok(false),
-            (State::BeforeProblem(expected), Token::Number(..)) => self.problem_word(
-                expected,
-                place,
-                token,
-            ),
-            (State::BeforeProblem(expected), Token::Problem(_)) => self.problem_word(
-                expected,
-                place,
-                token,
-            ),
-            (State::BeforeProblem(expected), Token::Format(_)) => self.problem_word(
-                expected,
-                place,
-                token,
-            ),
-            (State::BeforeProblem(expected), Token::Other(_)) => self.problem_word(
-                expected,
-                place,
-                token,
-            ),
+            (State::BeforeProblem(e), Token::Number(..)) => self.problem_word(e, place, token),
+            (State::BeforeProblem(e), Token::Problem(_)) => self.problem_word(e, place, token),
+            (State::BeforeProblem(e), Token::Format(_)) => self.problem_word(e, place, token),
+            (State::BeforeProblem(e), Token::Other(_)) => self.problem_word(e, place, token),
             (State::BetweenClauses { variables, left }, Token::Number(_, x)) => {
                 self.literals.clear();
                 self.number(variables, left, place, x)
             }
-            (State::InsideClause { variables, left }, Token::Number(_, x)) => self.number(
-                variables,
-                left,
-                place,
-                x,
-            ),
+            (State::InsideClause { variables, left }, Token::Number(_, x)) => {
+                self.number(variables, left, place, x)
+            }
             (State::BetweenClauses { .. } | State::InsideClause { .. }, _) =>
                 Err(ReadFault::Text(TextFault::NotNumber { place })),
             (State::Done, _) => Err(ReadFault::Text(TextFault::WordAfterClauses { place })),
@@ -146,12 +123,12 @@ impl<'t, 'p> Reader<'t, 'p> {
         let place = self.tokens.text_len();
         match self.state {
             State::BeforeProblem(_) => Err(ReadFault::Text(TextFault::NotProblemLine { place })),
-            State::BetweenClauses { .. } => Err(ReadFault::Text(TextFault::ClausesMissing {
-                place,
-            })),
-            State::InsideClause { .. } => Err(ReadFault::Text(TextFault::EndsInsideClause {
-                place,
-            })),
+            State::BetweenClauses { .. } => {
+                Err(ReadFault::Text(TextFault::ClausesMissing { place }))
+            }
+            State::InsideClause { .. } => {
+                Err(ReadFault::Text(TextFault::EndsInsideClause { place }))
+            }
             State::Done => Ok(None),
         }
     }

@@ -1,12 +1,12 @@
 // Cutting a text into tokens, from left to right, each byte looked at once.
 ghost use mathlib.Core.Path.{_≡_};
-ghost use mathlib.Core.Bool.{Bool, true, false};
-ghost use mathlib.Core.List.{_∷_, []};
-ghost use Prim.Native.Nat.{ℕ, _≤_, _<_, _-_};
-ghost use lib.ListN.{length, getD, drop};
+ghost use mathlib.Core.Bool.{Bool, false};
+ghost use Prim.Native.Nat.{_≤_, _<_};
+ghost use lib.ListN.{length, getD};
 ghost use Rattle.std.specs.shelf.Text.{sameBytes};
-ghost use Rattle.tokens.specs.Words.{parts-words, early-after, pieces, word, comment};
-ghost use Rattle.tokens.specs.Scanning.{in-word, in-comment, scan, begins-line, opens-comment, part, pieces-from, coming, Is-word, Kind, Told};
+ghost use Rattle.tokens.specs.Words.{parts-words, early-after, pieces};
+ghost use Rattle.tokens.specs.Scanning.{part-ends, Ends, begins-line, opens-comment, pieces-from, coming, Is-word, Kind, Told};
+use super::Part;
 use super::Token;
 use super::Tokens;
 use crate::numbers::number;
@@ -29,29 +29,24 @@ fn gap_end(text: &[u8], from: usize) -> usize
     n
 }
 
-// Where the word that begins at `from` ends.
-fn word_end(text: &[u8], from: usize) -> usize
-    requires { ⌜ from ≤ length (now text) ⌝ }
-    ensures low_bound { λ r. ⌜ from ≤ r ⌝ }
-    ensures high_bound { λ r. ⌜ r ≤ length (now (text .entry)) ⌝ }
-    ensures rest { λ r. ⌜ ((early : Bool) → scan (in-word early from []) from (drop from (now (text .entry))) ≡ word from (part (now (text .entry)) from r) ∷ pieces-from (early-after early (part (now (text .entry)) from r)) (now (text .entry)) r) ⌝ }
+fn ends(part: Part, b: u8) -> bool
+    ensures value { λ r. ⌜ r ≡ part-ends part b ⌝ }
 {
-    let mut n = from;
-    while n < text.len() && !parts(text[n]) {
-        n += 1;
+    match part {
+        Part::Word => parts(b),
+        Part::Line => b == b'\n',
     }
-    n
 }
 
-// Where the comment that begins at `from` ends.
-fn comment_end(text: &[u8], from: usize) -> usize
+// Where the word or the comment that begins at `from` ends.
+fn part_end(text: &[u8], from: usize, part: Part) -> usize
     requires { ⌜ from ≤ length (now text) ⌝ }
     ensures low_bound { λ r. ⌜ from ≤ r ⌝ }
     ensures high_bound { λ r. ⌜ r ≤ length (now (text .entry)) ⌝ }
-    ensures rest { λ r. ⌜ ((early : Bool) → scan (in-comment early from []) from (drop from (now (text .entry))) ≡ comment from (part (now (text .entry)) from r) ∷ pieces-from early (now (text .entry)) r) ⌝ }
+    ensures rest { λ r. ⌜ Ends part (now (text .entry)) from r ⌝ }
 {
     let mut n = from;
-    while n < text.len() && text[n] != b'\n' {
+    while n < text.len() && !ends(part, text[n]) {
         n += 1;
     }
     n
@@ -126,11 +121,11 @@ impl<'a> Tokens<'a> {
             return None;
         }
         if begins_comment(self.early, text, start) {
-            let end = comment_end(text, start);
+            let end = part_end(text, start, Part::Line);
             self.at = end;
             return Some((start, Token::Comment(&text[start..end])));
         }
-        let end = word_end(text, start);
+        let end = part_end(text, start, Part::Word);
         let word = &text[start..end];
         self.at = end;
         self.early = early_after(self.early, word);

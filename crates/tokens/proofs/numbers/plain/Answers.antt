@@ -1,6 +1,6 @@
 use mathlib.Core.Path.{_≡_, sym, _∙_, ap}
 use mathlib.Core.Bool.{true, false}
-use Prim.Native.Nat.{_-_, _+_, _*_, _≤_, _<_, _^_}
+use Prim.Native.Nat.{_+_, _*_, _≤_, _^_}
 use native.Mathlib.Nat.{pow-le-pow-right}
 use native.Mathlib.Omega.{arith}
 use lib.Dec.{lit<}

@@ -1,4 +1,4 @@
-use mathlib.Core.Path.{_≡_, sym, _∙_, ap}
+use mathlib.Core.Path.{sym, _∙_, ap}
 use Rattle.std.proofs.shelf.Results.{made-weaker}
 use Rattle.solve.specs.Answers.{printed}
 use Rattle.solve.proofs.answer.printing.report.Needs as need

@@ -1,14 +1,13 @@
-use mathlib.Core.Path.{_≡_, sym, _∙_, ap, subst}
-use native.Mathlib.Omega.{arith}
+use mathlib.Core.Path.{sym, _∙_, ap, subst}
 use Prim.Native.Nat.{_≤_}
 use lib.ListN.{length}
 use Rattle.std.specs.declared.result.Result.the-variants.{Ok, Err}
 use Rattle.std.proofs.shelf.Results.{err-from-errBy}
 use Rattle.table.specs.Held.{held}
 use Rattle.text.specs.Limits.{most-bytes}
-use Rattle.text.specs.Reading.{unread, Gave, Took}
+use Rattle.text.specs.Reading.{unread, brings, Gave, Took}
 use Rattle.tokens.specs.Scanning.{coming, piece}
-use Rattle.text.proofs.Unread.{brought, unread-end, unread-refused, unread-clause, unread-same, ended-gave}
+use Rattle.text.proofs.Unread.{unread-end, unread-refused, unread-clause, unread-same, ended-gave}
 use Rattle.text.proofs.reader.Reader.next_clause.Needs as need
 
 pub returns-in-Break-ended : need.returns-in-Break-ended
@@ -38,7 +37,7 @@ returns-then-ended c =
     let x = piece p (c .in-Some .token) in
     let told = c .in-Some .ensures tt in
     let alike = c .in-Continue-ended .ensures tt .alike in
-    let took = subst (λ b. Took (brought r x) p (Ok b) r is) (c .if-ended .taken) (c .in-Continue-ended .ensures tt .took) in
+    let took = subst (λ b. Took (brings r x) p (Ok b) r is) (c .if-ended .taken) (c .in-Continue-ended .ensures tt .took) in
     let fits : length (r .tokens .text .now) ≤ most-bytes = subst (λ u. length (u .text .now) ≤ most-bytes) (inv .0) (inv .2) in
     let next = ap coming (sym (inv .0)) ∙ told .told .0 in
     let text = told .text ∙ ap (λ u. u .text .now) (inv .0) in

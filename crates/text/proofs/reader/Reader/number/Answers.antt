@@ -2,14 +2,13 @@ use mathlib.Core.Path.{_≡_, refl, sym, _∙_, ap}
 use mathlib.Core.Bool.{true, false}
 use mathlib.Core.List.{_++_, _∷_, []}
 use native.Mathlib.Omega.{arith}
-use Prim.Native.Nat.{_≤_}
 use lib.Dec.{leb, ltb, eqb}
 use lib.IntN.{natAbs}
 use lib.ListN.{length}
 use mir.Syntax.{w32}
 use Rattle.std.proofs.shelf.Signed.{toZ-ofZ}
 use Rattle.std.proofs.shelf.Tests.{lt-leb, le-leb, le-ltb, ne-eqb}
-use Rattle.table.specs.Held.{held, beyond, places-of}
+use Rattle.table.specs.Held.{held, places-of}
 use Rattle.table.proofs.Places.{places-count}
 use Rattle.text.specs.declared.reader.State.the-variants.{InsideClause}
 use Rattle.text.specs.Reading.{begun, on}

@@ -1,7 +1,8 @@
 use mathlib.Core.Path.{_≡_, refl, sym, _∙_, ap}
-use mathlib.Core.Bool.{true, false}
+use mathlib.Core.Bool.{cond}
 use mathlib.Core.List.{[], _∷_}
 use native.Mathlib.Omega.{arith}
+use Rattle.tokens.specs.declared.stream.Part.the-variants.{Word, Line}
 use Rattle.tokens.specs.Scanning.{gap, begins-line, pieces-from}
 use Rattle.tokens.proofs.Gaps.{scan-end, gap-stop}
 use Rattle.tokens.proofs.stream.Tokens.next_token.Needs as need
@@ -17,13 +18,12 @@ pub returns-then-begins-comment : need.returns-then-begins-comment
 returns-then-begins-comment c =
     let s = c .args .self .now in
     let t = s .text .now in
-    let at = c .gap-end-start .result in
-    let word = c .gap-end-start .ensures .stops (omega arith) in
-    let opens = sym (c .if-begins-comment .ensures tt .value) in
+    let stops = c .gap-end-start .ensures .stops (omega arith) in
+    let opens = sym (ap (λ b. cond b Line Word) (c .if-begins-comment .ensures tt .value)) in
     record {
       text = refl;
       told = (
-        sym (c .gap-end-start .ensures .rest (s .early)) ∙ gap-stop t at (omega arith) (s .early) true word opens ∙ c .comment-end-end .ensures .rest (s .early),
+        sym (c .gap-end-start .ensures .rest (s .early)) ∙ gap-stop t (c .gap-end-start .result) (omega arith) (s .early) Line stops opens ∙ c .part-end-end .ensures .rest (s .early),
         tt,
       );
     }
@@ -33,15 +33,15 @@ returns c =
     let s = c .args .self .now in
     let t = s .text .now in
     let at = c .gap-end-start .result in
-    let end = c .word-end-end .result in
-    let word = c .gap-end-start .ensures .stops (omega arith) in
-    let opens = sym (c .if-begins-comment .ensures tt .value) in
+    let end = c .part-end-end-2 .result in
+    let stops = c .gap-end-start .ensures .stops (omega arith) in
+    let opens = sym (ap (λ b. cond b Line Word) (c .if-begins-comment .ensures tt .value)) in
     record {
       text = refl;
       told = (
         sym (c .gap-end-start .ensures .rest (s .early))
-            ∙ gap-stop t at (omega arith) (s .early) false word opens
-            ∙ c .word-end-end .ensures .rest (s .early)
+            ∙ gap-stop t at (omega arith) (s .early) Word stops opens
+            ∙ c .part-end-end-2 .ensures .rest (s .early)
             ∙ (λ i. sym (c .classify .ensures .bytes at) i ∷ pieces-from (sym (c .early-after-self .ensures .value) i) t end),
         c .classify .ensures .kind,
       );
