@@ -1,7 +1,5 @@
-// What the program answers, and how it is printed.
+// What the program answers. How it is printed is in answer/printing.rt.
 pub mod printing;
-
-pub use printing::report;
 
 #[derive(Clone, Copy, PartialEq, Eq, Debug)]
 pub enum Answer {

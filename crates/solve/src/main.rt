@@ -4,7 +4,7 @@
 mod answer;
 mod survey;
 
-use answer::report;
+use answer::printing::AnswerDisplay;
 use std::io;
 use std::io::Read;
 use survey::survey;
@@ -13,8 +13,7 @@ use survey::survey;
 fn run(rt: &LibcRuntime) -> io::Result<()> {
     let mut text: Vec<u8> = Vec::new(rt.alloc());
     rt.stdin().take(65_537).read_to_end(&mut text)?;
-    let answer = survey(text.as_slice());
-    rt.print(report(rt.alloc(), &answer)?)
+    rt.print(survey(text.as_slice()))
 }
 
 fn main(rt: LibcRuntime) {

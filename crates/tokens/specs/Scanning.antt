@@ -3,11 +3,11 @@
 use mathlib.Core.Path.{_≡_}
 use mathlib.Core.Bool.{Bool, true, false, cond, _&&_, _||_}
 use mathlib.Core.List.{List, [], _∷_, _++_}
-use Prim.Native.Nat.{ℕ, _+_, _-_}
+use Prim.Native.Nat.{ℕ, _+_, _-_, _≤_, _<_}
 use lib.Chars.{codes}
 use lib.Dec.{eqb}
 use lib.IntN.{ℤ}
-use lib.ListN.{getD, take, drop}
+use lib.ListN.{length, getD, take, drop}
 use denote.Ref.{now}
 use Rattle.std.specs.shelf.Text.{sameBytes}
 use Rattle.std.specs.declared.option.Option.{Option}
@@ -79,14 +79,24 @@ span text p e = take (e - p) (drop p text)
 abbrev pub pieces-from : Bool → List ℕ → ℕ → List Piece
 pieces-from early text p = scan (gap early (begins-line text p)) p (drop p text)
 
--- the part that begins at the place p ends at the place e
-abbrev pub Ends : Part → List ℕ → ℕ → ℕ → Type 0
-Ends part text p e =
-    (early : Bool) → scan (inside part early p []) p (drop p text) ≡ piece-of part p (span text p e) ∷ pieces-from (early-past-part part early (span text p e)) text e
-
 -- the pieces that are still to come
 abbrev pub coming : Tokens → List Piece
 coming t = pieces-from (t .early) (now (t .text)) (t .at)
+
+-- a gap ends here: a word or a comment begins, or nothing is to come
+abbrev pub Gap-ends : Tokens → Type 0
+Gap-ends t =
+    (t .at < length (now (t .text)) → parts-words (getD (now (t .text)) (t .at) 0) ≡ false) × (length (now (t .text)) ≤ t .at → coming t ≡ [])
+
+-- what begins where a gap ends
+abbrev pub here : Tokens → Part
+here t = opened (t .early) (begins-line (now (t .text)) (t .at)) (getD (now (t .text)) (t .at) 0)
+
+-- of what is to come, the part that begins here and ends at the place e is the first piece
+abbrev pub Ends : Part → Tokens → ℕ → Type 0
+Ends part t e =
+    let w = span (now (t .text)) (t .at) e in
+    coming t ≡ piece-of part (t .at) w ∷ pieces-from (early-past-part part (t .early) w) (now (t .text)) e
 
 -- the piece that a token at a place stands for
 abbrev pub piece : ℕ → Token → Piece

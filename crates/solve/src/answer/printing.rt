@@ -1,20 +1,19 @@
 // The lines that the program prints.
-ghost use mathlib.Core.Path.{_≡_};
-ghost use Rattle.std.specs.Of.String.{string-bytes};
-ghost use Rattle.std.specs.Vec.{made};
+ghost use Rattle.std.specs.declared.option.Option.the-variants.{Some};
 ghost use Rattle.solve.specs.Answers.{printed};
 use super::Answer;
-use std::alloc::AllocError;
-use std::alloc::Global;
+use std::fmt;
 
-pub fn report(heap: Global, answer: &Answer) -> Result<String, AllocError>
-    ensures made { λ r. ⌜ made r (λ s. string-bytes s ≡ printed (now (answer .entry))) ⌝ }
-{
-    match *answer {
-        Answer::Read { clauses, variables } => format!(
-            heap,
-            "c {clauses} clauses over {variables} variables\ns UNKNOWN\n"
-        ),
-        Answer::Refused { number, place } => format!(heap, "c refused {number} at {place}\n"),
+pub impl fmt::Display for Answer as AnswerDisplay {
+    ghost shown = { λ answer. Some (printed answer) };
+
+    fn fmt<W: fmt::Write>(&self, f: &mut fmt::Formatter<W>) -> fmt::Result {
+        match *self {
+            Answer::Read { clauses, variables } => write!(
+                f,
+                "c {clauses} clauses over {variables} variables\ns UNKNOWN\n"
+            ),
+            Answer::Refused { number, place } => write!(f, "c refused {number} at {place}\n"),
+        }
     }
 }

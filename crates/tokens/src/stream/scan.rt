@@ -1,11 +1,10 @@
 // Cutting a text into tokens, from left to right, each byte looked at once.
 ghost use mathlib.Core.Path.{_≡_};
-ghost use mathlib.Core.Bool.{Bool, false};
 ghost use Prim.Native.Nat.{_≤_, _<_};
-ghost use lib.ListN.{length, getD};
+ghost use lib.ListN.{length};
 ghost use Rattle.std.specs.shelf.Text.{sameBytes};
 ghost use Rattle.tokens.specs.Words.{parts-words, early-after, pieces};
-ghost use Rattle.tokens.specs.Scanning.{part-ends, Ends, begins-line, opens-comment, pieces-from, coming, Is-word, Kind, Told};
+ghost use Rattle.tokens.specs.Scanning.{part-ends, Gap-ends, here, Ends, coming, Is-word, Kind, Told};
 use super::Part;
 use super::Token;
 use super::Tokens;
@@ -17,18 +16,6 @@ fn parts(b: u8) -> bool
     b == b' ' || b == b'\t' || b == b'\r' || b == b'\n'
 }
 
-// Where the first word or comment from `from` on begins, or the text's end.
-fn gap_end(text: &[u8], from: usize) -> usize
-    ensures rest { λ r. ⌜ ((early : Bool) → pieces-from early (now (text .entry)) r ≡ pieces-from early (now (text .entry)) from) ⌝ }
-    ensures stops { λ r. ⌜ (r < length (now (text .entry)) → parts-words (getD (now (text .entry)) r 0) ≡ false) ⌝ }
-{
-    let mut n = from;
-    while n < text.len() && parts(text[n]) {
-        n += 1;
-    }
-    n
-}
-
 fn ends(part: Part, b: u8) -> bool
     ensures value { λ r. ⌜ r ≡ part-ends part b ⌝ }
 {
@@ -36,28 +23,6 @@ fn ends(part: Part, b: u8) -> bool
         Part::Word => parts(b),
         Part::Line => b == b'\n',
     }
-}
-
-// Where the word or the comment that begins at `from` ends.
-fn part_end(text: &[u8], from: usize, part: Part) -> usize
-    requires { ⌜ from ≤ length (now text) ⌝ }
-    ensures low_bound { λ r. ⌜ from ≤ r ⌝ }
-    ensures high_bound { λ r. ⌜ r ≤ length (now (text .entry)) ⌝ }
-    ensures rest { λ r. ⌜ Ends part (now (text .entry)) from r ⌝ }
-{
-    let mut n = from;
-    while n < text.len() && !ends(part, text[n]) {
-        n += 1;
-    }
-    n
-}
-
-// Whether a comment begins at `at`, where no word or comment goes on.
-fn begins_comment(early: bool, text: &[u8], at: usize) -> bool
-    requires { ⌜ at < length (now text) ⌝ }
-    ensures value { λ r. ⌜ r ≡ opens-comment early (begins-line (now (text .entry)) at) (getD (now (text .entry)) at 0) ⌝ }
-{
-    early && (at == 0 || text[at - 1] == b'\n') && text[at] == b'c'
 }
 
 fn spelled(word: &[u8], name: &[u8]) -> bool
@@ -110,25 +75,73 @@ impl<'a> Tokens<'a> {
         self.text.len()
     }
 
+    // Goes on to the next word or comment, or to the text's end.
+    fn skip_gap(&mut self)
+        ensures text { λ _. ⌜ now (self .exit) .text ≡ now (self .entry) .text ⌝ }
+        ensures early { λ _. ⌜ now (self .exit) .early ≡ now (self .entry) .early ⌝ }
+        ensures same { λ _. ⌜ coming (now (self .exit)) ≡ coming (now (self .entry)) ⌝ }
+        ensures stops { λ _. ⌜ Gap-ends (now (self .exit)) ⌝ }
+    {
+        let text = self.text;
+        let mut n = self.at;
+        while n < text.len() && parts(text[n]) {
+            n += 1;
+        }
+        self.at = n;
+    }
+
+    // Whether a word or a comment begins here.
+    fn opening(&self) -> Part
+        requires { ⌜ now self .at < length (now (now self .text)) ⌝ }
+        ensures value { λ r. ⌜ r ≡ here (now (self .entry)) ⌝ }
+    {
+        let text = self.text;
+        let at = self.at;
+        if self.early && (at == 0 || text[at - 1] == b'\n') && text[at] == b'c' {
+            Part::Line
+        } else {
+            Part::Word
+        }
+    }
+
+    // Where the word or the comment that begins here ends.
+    fn part_end(&self, part: Part) -> usize
+        requires within { ⌜ now self .at < length (now (now self .text)) ⌝ }
+        requires begins { ⌜ Gap-ends (now self) ⌝ }
+        requires part { ⌜ part ≡ here (now self) ⌝ }
+        ensures low_bound { λ r. ⌜ now (self .entry) .at ≤ r ⌝ }
+        ensures high_bound { λ r. ⌜ r ≤ length (now (now (self .entry) .text)) ⌝ }
+        ensures rest { λ r. ⌜ Ends part (now (self .entry)) r ⌝ }
+    {
+        let text = self.text;
+        let mut n = self.at;
+        while n < text.len() && !ends(part, text[n]) {
+            n += 1;
+        }
+        n
+    }
+
     // The next word or comment, with its place; none at the end of the text.
     pub fn next_token(&mut self) -> Option<(usize, Token<'a>)>
         ensures text { λ _. ⌜ now (now (self .exit) .text) ≡ now (now (self .entry) .text) ⌝ }
         ensures told { λ r. ⌜ Told (coming (now (self .entry))) r (coming (now (self .exit))) ⌝ }
     {
+        self.skip_gap();
         let text = self.text;
-        let start = gap_end(text, self.at);
+        let start = self.at;
         if start >= text.len() {
             return None;
         }
-        if begins_comment(self.early, text, start) {
-            let end = part_end(text, start, Part::Line);
-            self.at = end;
-            return Some((start, Token::Comment(&text[start..end])));
-        }
-        let end = part_end(text, start, Part::Word);
-        let word = &text[start..end];
+        let part = self.opening();
+        let end = self.part_end(part);
+        let bytes = &text[start..end];
         self.at = end;
-        self.early = early_after(self.early, word);
-        Some((start, classify(word)))
+        match part {
+            Part::Line => Some((start, Token::Comment(bytes))),
+            Part::Word => {
+                self.early = early_after(self.early, bytes);
+                Some((start, classify(bytes)))
+            }
+        }
     }
 }
