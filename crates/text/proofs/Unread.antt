@@ -20,7 +20,8 @@ use Rattle.text.specs.declared.reader.State.the-variants.{BeforeProblem, Betwe
 use Rattle.tokens.specs.declared.stream.Tokens.{Tokens}
 use Rattle.text.specs.Limits.{most-bytes}
 use Rattle.tokens.specs.Numbers.{number-word}
-use Rattle.text.specs.Reading.{Reading, clause, refused, Step, on, gives, stops, begun, between, step-piece, brings, at-end, go-on, read, read-on, unread, Ended, Gave, Alike}
+use Rattle.text.specs.Reading.{Reading, clause, refused, Step, on, gives, stops, between, step-piece, at-end, go-on, read}
+use Rattle.text.specs.Unread.{begun, brings, read-on, unread, Ended, Gave, Alike}
 use Rattle.tokens.specs.Scanning.{coming}
 use Rattle.tokens.specs.Words.{Piece, word, comment}
 use Rattle.text.proofs.Steps.{problem-by, clause-by}

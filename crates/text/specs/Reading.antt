@@ -1,34 +1,27 @@
 -- What a clause text says: its clauses in order, and how it ends. Assumes nothing.
-use mathlib.Core.Path.{_≡_}
-use mathlib.Core.Bool.{Bool, true, false, cond}
+use mathlib.Core.Bool.{cond}
 use mathlib.Core.List.{List, [], _∷_, _++_}
 use Prim.Native.Nat.{ℕ, _-_}
 use lib.Dec.{leb, ltb, eqb}
 use lib.IntN.{ℤ, natAbs}
 use lib.ListN.{length}
-use denote.Ref.{now}
 use Rattle.std.specs.declared.option.Option.{Option}
 use Rattle.std.specs.declared.option.Option.the-variants.{Some, None}
 use Rattle.std.specs.declared.result.Result.{Result}
 use Rattle.std.specs.declared.result.Result.the-variants.{Ok, Err}
-use Rattle.table.specs.Held.{held, places-of}
 use Rattle.text.specs.declared.faults.TextFault.{TextFault}
 use Rattle.text.specs.declared.faults.TextFault.the-variants.{TooLong, NotProblemLine, NotNumber, AboveVariables, EndsInsideClause, WordAfterClauses, ClausesMissing}
 use Rattle.text.specs.declared.faults.BookFault.the-variants.{TooManyLiterals}
 use Rattle.text.specs.declared.faults.ReadFault.{ReadFault}
 use Rattle.text.specs.declared.faults.ReadFault.the-variants.{Text, Book}
-use Rattle.text.specs.declared.problem.Expected.{Expected}
 use Rattle.text.specs.declared.problem.Expected.the-variants.{ProblemWord}
 use Rattle.text.specs.declared.problem.Progress.{Progress}
 use Rattle.text.specs.declared.problem.Progress.the-variants.{Expecting, Complete}
 use Rattle.text.specs.declared.reader.State.{State}
 use Rattle.text.specs.declared.reader.State.the-variants.{BeforeProblem, BetweenClauses, InsideClause, Done}
-use Rattle.text.specs.declared.reader.Reader.{Reader}
-use Rattle.tokens.specs.declared.stream.Tokens.{Tokens}
 use Rattle.text.specs.Limits.{most-bytes, most-literals}
 use Rattle.tokens.specs.Numbers.{number-word}
-use Rattle.text.specs.Problem.{expect, expect-piece}
-use Rattle.tokens.specs.Scanning.{coming}
+use Rattle.text.specs.Problem.{expect}
 use Rattle.tokens.specs.Words.{Piece, word, comment, pieces}
 
 -- A clause is given with its signed numbers, the place of its ending 0, and
@@ -55,13 +48,6 @@ pub data Step : Type 0 where
   on : State → List ℤ → Step
   gives : List ℤ → ℕ → State → Step
   stops : ReadFault → Step
-
--- between clauses there are no literals yet
-abbrev pub begun : State → List ℤ → List ℤ
-begun (BeforeProblem e) ls = []
-begun (BetweenClauses n left) ls = []
-begun (InsideClause n left) ls = ls
-begun Done ls = []
 
 -- n variables, and `left` clauses still to come
 abbrev pub between : ℕ → ℕ → State
@@ -115,54 +101,3 @@ abbrev pub reading : ℕ → List ℕ → Reading
 reading limit text =
     cond (ltb most-bytes (length text)) (refused (Text TooLong))
     (read most-literals limit (length text) (BeforeProblem ProblemWord) [] (pieces text))
-
--- what a text has still to say, in a state with the literals ls so far
-abbrev pub read-on : ℕ → ℕ → State → List ℤ → Tokens → Reading
-read-on most limit s ls tokens =
-    let text = now (tokens .text) in
-    cond (ltb most-bytes (length text)) (refused (Text TooLong)) (read most limit (length text) s ls (coming tokens))
-
--- what a reader has still to read
-abbrev pub unread : Reader → Reading
-unread r =
-    read-on (length (places-of (r .literals))) (r .limit) (r .state) (begun (r .state) (held (r .literals))) (r .tokens)
-
--- the step that a piece brings to a reader
-abbrev pub brings : Reader → Piece → Step
-brings r x = step-piece (length (places-of (r .literals))) (r .limit) (r .state) (begun (r .state) (held (r .literals))) x
-
--- the step that a word of the problem line brings
-abbrev pub problem-brings : Reader → Expected → Piece → Step
-problem-brings r e x = after-problem (expect-piece (r .limit) e x)
-
--- the step that a number brings, after the literals that are held
-abbrev pub number-brings : Reader → ℕ → ℕ → ℕ → ℤ → Step
-number-brings r n left p x = clause-word (length (places-of (r .literals))) n left (held (r .literals)) p (Some x)
-
--- how a text ends, as a call of the reader tells it
-abbrev pub Ended : Reading → Result (Option ℕ) ReadFault → Type 0
-Ended was (Ok (Some p)) = ⊥
-Ended was (Ok None) = was ≡ well
-Ended was (Err f) = was ≡ refused f
-
--- What a call of the reader gave, of what was unread before it: the next
--- clause, whose literals are then held, and the rest is unread; or how the text
--- ends, and a further call gives the same again.
-abbrev pub Gave : Reading → Result (Option ℕ) ReadFault → List ℤ → Reading → Type 0
-Gave was (Ok (Some p)) ls is = was ≡ clause ls p is
-Gave was (Ok None) ls is = (was ≡ well) × (is ≡ well)
-Gave was (Err f) ls is = (was ≡ refused f) × (is ≡ refused f)
-
--- the same text, limit and places for literals
-abbrev pub Alike : Reader → Reader → Type 0
-Alike was is =
-    (is .tokens ≡ was .tokens) × (is .limit ≡ was .limit) × (length (places-of (is .literals)) ≡ length (places-of (was .literals)))
-
--- What a step does to a reader: it goes on to a state with some literals so
--- far; it gives the literals that are held, and the place p; or it is refused,
--- and state and literals stay.
-abbrev pub Took : Step → ℕ → Result Bool ReadFault → Reader → Reader → Type 0
-Took brought p (Ok true) was is = brought ≡ gives (held (is .literals)) p (is .state)
-Took brought p (Ok false) was is = brought ≡ on (is .state) (begun (is .state) (held (is .literals)))
-Took brought p (Err f) was is =
-    (brought ≡ stops f) × (is .state ≡ was .state) × (begun (is .state) (held (is .literals)) ≡ begun (was .state) (held (was .literals)))

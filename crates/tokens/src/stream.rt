@@ -1,5 +1,5 @@
 // The words and comments of a text, one after another. The scan is in
-// tokens/scan.rt.
+// stream/scan.rt.
 pub mod scan;
 
 // A part of the text: a number word with its number, a word of the problem

@@ -1,7 +1,8 @@
 use mathlib.Core.Path.{_≡_}
 use Prim.Native.Nat.{_+_}
 use lib.ListN.{length}
-use Rattle.text.specs.Reading.{unread, reading, clauses-of, fault-of}
+use Rattle.text.specs.Reading.{reading, clauses-of, fault-of}
+use Rattle.text.specs.Unread.{unread}
 use Rattle.solve.proofs.survey.count.Given as given
 
 -- the clauses so far and those to come are all clauses of the text

@@ -5,7 +5,7 @@ use Rattle.std.specs.declared.result.Result.the-variants.{Ok, Err}
 use Rattle.std.proofs.shelf.Results.{err-from-errBy}
 use Rattle.table.specs.Held.{held}
 use Rattle.text.specs.Limits.{most-bytes}
-use Rattle.text.specs.Reading.{unread, brings, Gave, Took}
+use Rattle.text.specs.Unread.{unread, brings, Gave, Took}
 use Rattle.tokens.specs.Scanning.{coming, piece}
 use Rattle.text.proofs.Unread.{unread-end, unread-refused, unread-clause, unread-same, ended-gave}
 use Rattle.text.proofs.reader.Reader.next_clause.Needs as need

@@ -2,7 +2,7 @@ use mathlib.Core.Path.{_≡_}
 use Prim.Native.Nat.{_≤_}
 use lib.ListN.{length}
 use Rattle.text.specs.Limits.{most-bytes}
-use Rattle.text.specs.Reading.{unread}
+use Rattle.text.specs.Unread.{unread}
 use Rattle.tokens.specs.Scanning.{coming}
 use Rattle.text.proofs.reader.Reader.next_clause.Given as given
 

@@ -11,7 +11,8 @@ use Rattle.std.proofs.shelf.Tests.{lt-leb, le-leb, le-ltb, ne-eqb}
 use Rattle.table.specs.Held.{held, places-of}
 use Rattle.table.proofs.Places.{places-count}
 use Rattle.text.specs.declared.reader.State.the-variants.{InsideClause}
-use Rattle.text.specs.Reading.{begun, on}
+use Rattle.text.specs.Reading.{on}
+use Rattle.text.specs.Unread.{begun}
 use Rattle.text.proofs.reader.Reader.number.Needs as need
 
 pub returns-in-Err : need.returns-in-Err
