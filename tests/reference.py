@@ -135,7 +135,8 @@ def main():
         text = random_text(rng)
         run = subprocess.run([program], input=text, stdout=subprocess.PIPE)
         want = answer(text)
-        kinds[' '.join(want.split()[1:3])if 'refused' in want else 'read'] = kinds.get(' '.join(want.split()[1:3]) if 'refused' in want else 'read', 0) + 1
+        kind = ' '.join(want.split()[1:3]) if 'refused' in want else 'read'
+        kinds[kind] = kinds.get(kind, 0) + 1
         if run.returncode != 0 or run.stdout != want.encode():
             wrong += 1
             print('text %r\n  wanted %r\n  told   %r (status %d)' % (text, want, run.stdout, run.returncode))
