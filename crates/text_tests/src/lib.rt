@@ -1,5 +1,5 @@
-// Texts that are read when the tests run: the worked examples once more, as
-// compiled code, and texts too large to be computed by the prover.
+// What is run, not only proved: the worked examples once more, as compiled
+// code, texts too large to be computed by the prover, and lent places.
 #[cfg(test)]
 mod outcome;
 #[cfg(test)]

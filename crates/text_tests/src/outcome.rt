@@ -12,7 +12,7 @@ pub struct Outcome {
 }
 
 // Reads a text clause by clause. No text has more than 65,536 clauses.
-pub fn read_whole(text: &[u8], limit: u32) -> Outcome {
+pub(crate) fn read_whole(text: &[u8], limit: u32) -> Outcome {
     let mut places = [0; MOST_LITERALS];
     let mut reader = Reader::new(text, limit, &mut places);
     let mut read = Outcome {

@@ -3,6 +3,9 @@ use crate::outcome::OutcomeDebug;
 use crate::outcome::OutcomePartialEq;
 use crate::outcome::read_whole;
 use std::test::*;
+use table::filled::Filled;
+use table::filled::FullDebug;
+use table::search::position;
 use text::problem::line::head;
 
 // A text, and the clauses, literals, refusal and place that it comes to.
@@ -95,4 +98,26 @@ fn large_texts(rt: LibcRuntime) -> Result<(), Fail> {
     };
     check_eq(read_whole(text.as_slice(), 3), long)?;
     check_eq(head(text.as_slice()).is_err(), true)
+}
+
+// Three lent places take three literals, and keep what lies beyond them.
+#[test]
+fn lent_places() -> Result<(), Fail> {
+    let mut lent = [7, 7, 7];
+    {
+        let mut literals = Filled::new(&mut lent);
+        check_eq(literals.push(-3)?, 0)?;
+        check_eq(literals.push(5)?, 1)?;
+        check_eq(literals.room(), 1)?;
+        check_eq(position(literals.as_slice(), &5), Some(1))?;
+        check_eq(position(literals.as_slice(), &7), None)?;
+        check_eq(literals.get(0), Some(-3))?;
+        check_eq(literals.get(2), None)?;
+        check_eq(literals.push(5)?, 2)?;
+        check(literals.push(1).is_err())?;
+        check_eq(position(literals.as_slice(), &5), Some(1))?;
+        literals.clear();
+        check_eq(literals.len(), 0)?;
+    }
+    check_eq(lent[2], 5)
 }
