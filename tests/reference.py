@@ -1,8 +1,11 @@
 #!/usr/bin/env python3
-"""An independent reading of clause texts, replayed against the program.
+"""A second reading of clause texts, replayed against the program.
 
-Written from docs/CLAUSE-TEXT.md alone, with regular expressions and no state
-machine, so that it shares no structure with the code it is compared to.
+It shares no code and no structure with the program (regular expressions, no
+state machine), but it was written by the same hands from the same rules: it
+finds slips of the code and of the definitions, not a rule misread in both.
+Over half of the texts it makes are refused in the problem line, and clauses
+of more than 128 literals are rare among them.
 
   tests/reference.py [PROGRAM] [COUNT] [SEED]
 

@@ -1,4 +1,5 @@
-// Cutting a text into tokens, from left to right, each byte looked at once.
+// Cutting a text into tokens, from left to right. The scan never goes back; the
+// bytes of a word are looked at again to tell its kind.
 ghost use mathlib.Core.Path.{_≡_};
 ghost use Prim.Native.Nat.{_≤_, _<_};
 ghost use lib.ListN.{length};
