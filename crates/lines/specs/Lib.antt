@@ -2,3 +2,4 @@ pub mod Resolving
 pub mod Lines
 pub mod Given
 pub mod ReadingOff
+pub mod Same

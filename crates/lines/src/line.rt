@@ -3,8 +3,7 @@
 ghost use Rattle.std.specs.Prelude.{◌≡◌};
 ghost use Rattle.clauses.specs.Clauses.{same};
 ghost use Rattle.lines.specs.Lines.{clause_of, given_line, resolved_line, widened_line};
-ghost use Rattle.std.specs.Cmp.Rules.{comparing};
-ghost use Rattle.std.proofs.Common.{rules};
+ghost use Rattle.lines.specs.Same.{lines_alike};
 
 use clauses::clause::Clause;
 
@@ -80,7 +79,7 @@ impl Line {
 impl PartialEq for Line {
     ghost eq = { λ x y. same (clause_of x) (clause_of y) };
 
-    ghost laws = { Prim.search (comparing, rules) };
+    ghost laws = { lines_alike };
 
     fn eq(&self, other: &Line) -> bool {
         (self.clause.pos == other.clause.pos) & (self.clause.neg == other.clause.neg)

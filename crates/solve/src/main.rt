@@ -1,6 +1,8 @@
 // The program: clause text on standard input, what was made of it on standard
 // output. It always ends with status 0. Nothing is searched yet, so a sound
 // text is answered with what was read, and with `s UNKNOWN`.
+#![tactic(auto)]
+
 mod answer;
 mod survey;
 

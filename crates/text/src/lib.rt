@@ -2,6 +2,8 @@
 // four words are the problem line (problem.rt), and the reader (reader.rt)
 // gives the clauses after it one at a time. Words and comments come from the
 // crate `tokens`.
+#![tactic(auto)]
+
 pub mod faults;
 pub mod limits;
 pub mod problem;

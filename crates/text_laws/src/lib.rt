@@ -1,6 +1,8 @@
 // What is proved of the definitions of clause texts alone: the laws of
 // reading, and the worked examples. A theorem is asked for where a contract
 // names it, so each stands on a function; the functions themselves do nothing.
+#![tactic(auto)]
+
 ghost use Rattle.text_laws.specs.Examples.{NumberWords, SoundTexts, LongClauses, FaultyTexts};
 ghost use Rattle.text_laws.specs.Laws.{NumberWordsAreDecimals, SoundTextsSayTheirClauses, WrittenIsRead, WrittenHasItsHead, RefusalLooksNoFurther};
 

@@ -1,5 +1,5 @@
 -- Broken clauses and the bar as words. Assumes nothing.
-use Rattle.std.proofs.Common.{◌≡◌, ℕ, ◌-◌, ◌^◌, ◌<◌, Bool, true, false, cond, not, ◌&&◌, ◌||◌, eqb, ltb, pos, sym, refl, ap, ◌∙◌, ap₂, arith}
+use Rattle.std.proofs.Common.{◌≡◌, ℕ, ◌-◌, ◌^◌, ◌<◌, Bool, true, false, cond, not, ◌&&◌, ◌||◌, eqb, ltb, sym, refl, ap, ◌∙◌, ap₂, arith}
 use mathlib.Core.Bool.{and-true}
 use lib.Bits.{bit_and, bit_or, and_le_l, or_lt}
 use Rattle.std.proofs.lemmas.Bool.{and_right}

@@ -13,11 +13,11 @@ use Rattle.lines.proofs.given.gather.Goals as goal
 pub loop-number-init : goal.loop-number-init
 loop-number-init c = (refl, none-held)
 
-pub returns-then-is-none : goal.returns-then-is-none
-returns-then-is-none c =
+pub returns-then-is_none : goal.returns-then-is_none
+returns-then-is_none c =
     let x = get_or c.args.numbers.now c.loop-number.number-index (pos 0) in
     let fits : SFits w32 x = search rules in
-    let none = told (names c.args.n (to_z w32 (of_z w32 x))) _ c.variable.result _ c.variable.ensures.value c.if-is-none.ensures in
+    let none = told (names c.args.n (to_z w32 (of_z w32 x))) _ c.variable.result _ c.variable.ensures.value c.if-is_none.ensures in
     record { gathers = all-stops (names c.args.n) c.args.numbers.now c.loop-number.number-index (pos 0) c.loop-number-test.true (ap (names c.args.n) (sym (to_z-of_z w32 x fits)) ∙ none) }
 
 pub loop-number-preserved : goal.loop-number-preserved
@@ -27,7 +27,7 @@ loop-number-preserved c =
     let x = get_or xs i (pos 0) in
     let fits : SFits w32 x = search rules in
     let back = to_z-of_z w32 x fits in
-    let some : names c.args.n x ≡ true = ap (names c.args.n) (sym back) ∙ told (names c.args.n (to_z w32 (of_z w32 x))) _ c.variable.result _ c.variable.ensures.value c.if-is-none.ensures in
+    let some : names c.args.n x ≡ true = ap (names c.args.n) (sym back) ∙ told (names c.args.n (to_z w32 (of_z w32 x))) _ c.variable.result _ c.variable.ensures.value c.if-is_none.ensures in
     let more = take_more xs i (pos 0) c.loop-number-test.true in
     let unit = subst (λ (l : ℤ). Unit l c.unit.result) back c.unit.ensures.literals in
     let set = one_more c.args.n (take i xs) x c.loop-number.clause c.unit.result c.union-clause.result c.requires some c.loop-number.invariant.1 unit c.union-clause.ensures.value in (

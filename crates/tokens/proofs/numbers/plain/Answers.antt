@@ -30,7 +30,7 @@ returns c =
     let i = c.loop-b.b-index in
     let yes : all_digits w ≡ true = sym c.loop-b.invariant.1 ∙ all_end w i c.loop-b-test.false in
     let is : c.loop-b.n ≡ value_after 0 w = sym (value_end w i c.loop-b.n c.loop-b-test.false) ∙ c.loop-b.invariant.2 in
-    let sized : is_sized w ≡ true = sym c.if-not-is-sized.ensures.value in
+    let sized : is_sized w ≡ true = sym c.if-not-is_sized.ensures.value in
     let short : length w ≤ 5 = grind (arith, nat_tests) in
     let five : i ≤ 5 = omega arith in
     let top : 10 ^ i ≤ 10 ^ 5 = pow-le-pow_right {n = 10} (lit< tt) five in

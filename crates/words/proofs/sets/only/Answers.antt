@@ -12,13 +12,13 @@ sole_none (x ∷ y ∷ ys) v e no-sole = refl
 
 pub returns-then-word-one : goal.returns-then-word-one
 returns-then-word-one c =
-    let low = sym c.in-ok-v.ensures.value in
-    record { value = sym (sole_from c.args.word c.in-ok-v.v low (λ k h. ap (bit k) c.if-word-one.true ∙ c.one.ensures.bits k h)) }
+    let low = sym c.in_ok-v.ensures.value in
+    record { value = sym (sole_from c.args.word c.in_ok-v.v low (λ k h. ap (bit k) c.if-word-one.true ∙ c.one.ensures.bits k h)) }
 
 pub returns-else-word-one : goal.returns-else-word-one
 returns-else-word-one c =
     let word = c.args.word in
-    let v = c.in-ok-v.v in
-    let low = sym c.in-ok-v.ensures.value in
+    let v = c.in_ok-v.v in
+    let low = sym c.in_ok-v.ensures.value in
     let bits : sole (variables word) ≡ Some v → (k : ℕ) → k < width → bit k word ≡ bit k c.one.result = λ one k h. sole_bits word v one k h ∙ sym (c.one.ensures.bits k h) in
-    record { value = sym (sole_none (variables word) v low (λ one. c.if-word-one.false (same_bits word c.one.result (omega arith) c.one.type-inv (bits one)))) }
+    record { value = sym (sole_none (variables word) v low (λ one. c.if-word-one.false (same_bits word c.one.result (omega arith) c.one.type_inv (bits one)))) }

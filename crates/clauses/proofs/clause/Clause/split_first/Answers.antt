@@ -13,19 +13,19 @@ small v h = omega (arith, ints)
 turned : (v : ℕ) → v ≤ width → to_z w32 (of_z w32 (pos 0 -ℤ to_z w32 v)) ≡ neg_ℤ (pos v)
 turned v h = omega (arith, ints)
 
-pub returns-in-err-v : goal.returns-in-err-v
-returns-in-err-v c =
-    let none = first-none c.args.self.now c.in-err-v.ensures.value in
-    record { splits = subst (Splits (literals (signs c.args.self.now))) (sym c.from-residual.ensures) none }
+pub returns-in_err-v : goal.returns-in_err-v
+returns-in_err-v c =
+    let none = first-none c.args.self.now c.in_err-v.ensures.value in
+    record { splits = subst (Splits (literals (signs c.args.self.now))) (sym c.from_residual.ensures) none }
 
 pub returns-then-holds : goal.returns-then-holds
 returns-then-holds c =
-    let v = c.in-ok-v.field-0 in
-    let named = c.in-ok-v.ensures.named in
-    record { splits = first-plus c.args.self.now c.without.result v _ (to_z w32 v) c.in-ok-v.ensures.value (small v named.1) (small v named.1) c.if-holds.ensures.value c.without.ensures.value }
+    let v = c.in_ok-v.field-0 in
+    let named = c.in_ok-v.ensures.named in
+    record { splits = first-plus c.args.self.now c.without.result v _ (to_z w32 v) c.in_ok-v.ensures.value (small v named.1) (small v named.1) c.if-holds.ensures.value c.without.ensures.value }
 
 pub returns : goal.returns
 returns c =
-    let v = c.in-ok-v.field-0 in
-    let named = c.in-ok-v.ensures.named in
-    record { splits = first-minus c.args.self.now c.without-2.result v _ (to_z w32 (of_z w32 (pos 0 -ℤ to_z w32 v))) (to_z w32 v) c.in-ok-v.ensures.value (small v named.1) (turned v named.1) (turned v named.1) c.if-holds.ensures.value c.without-2.ensures.value }
+    let v = c.in_ok-v.field-0 in
+    let named = c.in_ok-v.ensures.named in
+    record { splits = first-minus c.args.self.now c.without-2.result v _ (to_z w32 (of_z w32 (pos 0 -ℤ to_z w32 v))) (to_z w32 v) c.in_ok-v.ensures.value (small v named.1) (turned v named.1) (turned v named.1) c.if-holds.ensures.value c.without-2.ensures.value }

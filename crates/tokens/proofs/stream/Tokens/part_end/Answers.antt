@@ -21,8 +21,8 @@ returns-else-not-ends c =
     let t = s.text.now in
     let n = c.loop-n.n in
     record {
-      low-bound = omega arith;
-      high-bound = omega arith;
+      low_bound = omega arith;
+      high_bound = omega arith;
       rest = gap_stop t s.at c.requires.within s.early c.args.part (c.requires.begins.0 c.requires.within) (sym c.requires.part)
           ∙ sym c.loop-n.invariant.2 ∙ part_stop t n (omega arith) s.early c.args.part s.at (span t s.at n) (sym c.if-not-ends.ensures.value);
     }
@@ -33,8 +33,8 @@ returns-after-loop-n c =
     let t = s.text.now in
     let n = c.loop-n.n in
     record {
-      low-bound = omega arith;
-      high-bound = omega arith;
+      low_bound = omega arith;
+      high_bound = omega arith;
       rest = gap_stop t s.at c.requires.within s.early c.args.part (c.requires.begins.0 c.requires.within) (sym c.requires.part)
           ∙ sym c.loop-n.invariant.2 ∙ part_done t n (omega arith) s.early c.args.part s.at (span t s.at n);
     }
