@@ -2,7 +2,7 @@
 -- back. Assumes nothing.
 use Rattle.std.proofs.Common.{◌≡◌, ℕ, zero, suc, ◌-◌, ◌<◌, ◌≤◌, Bool, true, false, not, ◌&&◌, ◌||◌, List, [], ◌∷◌, ◌++◌, length, get_or, take, drop, ℤ, pos, neg_ℤ, nat_abs, Decides, sym, refl, ◌∙◌, subst, arith}
 use mathlib.Core.Bool.{or-false}
-use Rattle.std.specs.List.{AllByRecursion as All}
+use Rattle.std.specs.List.{AllByRecursion}
 use Rattle.std.proofs.ByRecursion.{All-get_or, All-from_get_or, Decides-by_and}
 use Rattle.std.proofs.lemmas.List.{append-nil, append_assoc}
 use Rattle.std.proofs.lemmas.Bool.{false≢true, and_parts, and_from}
@@ -73,7 +73,7 @@ not-or : (x y : Bool) → not (x || y) ≡ (not x && not y)
 not-or true y = refl
 not-or false y = refl
 
-decides_new : (c : Signs) (cs : List Signs) → Decides (not (has c cs)) (All (λ d. Alike c d → ⊥) cs)
+decides_new : (c : Signs) (cs : List Signs) → Decides (not (has c cs)) (AllByRecursion (λ d. Alike c d → ⊥) cs)
 decides_new c cs =
     Decides-by_and (λ d. not (same c d)) (λ d. Alike c d → ⊥) (λ ds. not (has c ds))
     (λ d. Decides-not (same c d) (decides_same c d)) refl (λ d ds. not-or (same c d) (has c ds)) cs

@@ -1,6 +1,6 @@
 -- A refusal looks no further than its word. Assumes nothing.
 use Rattle.std.proofs.Common.{◌≡◌, ℕ, ◌+◌, ◌<◌, ◌≤◌, true, ltb, List, [], ◌∷◌, ◌++◌, length, ℤ, Some, sym, refl, ap, ◌∙◌, append_assoc, arith, length-append}
-use Rattle.std.specs.List.{AllByRecursion as All}
+use Rattle.std.specs.List.{AllByRecursion}
 use Rattle.std.proofs.ByRecursion.{All-append}
 use Rattle.std.proofs.lemmas.Bool.{le-ltb, cond-false, cond_both}
 use Rattle.text.specs.declared.faults.ReadFault.{ReadFault}
@@ -65,14 +65,14 @@ module _ (most limit q end : ℕ) (before-end : q ≤ end) where
   end_later Done = tt
 
   -- later words are refused later
-  read-later : (s : State) (ls : List ℤ) (ps : List Piece) → All (Later q) ps → RefusedLater q (read most limit end s ls ps)
+  read-later : (s : State) (ls : List ℤ) (ps : List Piece) → AllByRecursion (Later q) ps → RefusedLater q (read most limit end s ls ps)
   read-later s ls [] h = end_later s
   read-later s ls (comment p c ∷ ps) h = read-later s ls ps h.1
   read-later s ls (word p w ∷ ps) h =
       go_on-later q p (step most limit s ls p w) (λ s' ls'. read most limit end s' ls' ps) h.0 (step-at most limit s ls p w) (λ s' ls'. read-later s' ls' ps h.1)
 
   -- pieces that are refused before q are read alike, whatever the later words are and wherever the text ends
-  module _ (end' : ℕ) (more more' : List Piece) (later : All (Later q) more) (f : ReadFault) (before : place_of (read_refusal f) < q) where
+  module _ (end' : ℕ) (more more' : List Piece) (later : AllByRecursion (Later q) more) (f : ReadFault) (before : place_of (read_refusal f) < q) where
     read_alike : (s : State) (ls : List ℤ) (ps : List Piece) → fault_of (read most limit end s ls (ps ++ more)) ≡ Some f → read most limit end' s ls (ps ++ more') ≡ read most limit end s ls (ps ++ more)
     read_alike s ls [] e =
         let no : ⊥ = omega (arith, refused_where q (read most limit end s ls more) f (read-later s ls more later) e) in
@@ -94,17 +94,17 @@ module _ (q : ℕ) where
   next_later (inside Word early s w) p b h o = cond_both (parts_words b) _ _ OpenedLater (λ _. tt) (λ _. o)
   next_later (inside Line early s w) p b h o = cond_both (ends_line b) _ _ OpenedLater (λ _. tt) (λ _. tt)
 
-  ended-later : (m : Mode) (b : ℕ) → OpenedLater m → All (Later q) (ended m b)
+  ended-later : (m : Mode) (b : ℕ) → OpenedLater m → AllByRecursion (Later q) (ended m b)
   ended-later (gap early fresh) b o = tt
-  ended-later (inside Word early s w) b o = cond_both (parts_words b) _ _ (All (Later q)) (λ _. (o, tt)) (λ _. tt)
-  ended-later (inside Line early s w) b o = cond_both (ends_line b) _ _ (All (Later q)) (λ _. (tt, tt)) (λ _. tt)
+  ended-later (inside Word early s w) b o = cond_both (parts_words b) _ _ (AllByRecursion (Later q)) (λ _. (o, tt)) (λ _. tt)
+  ended-later (inside Line early s w) b o = cond_both (ends_line b) _ _ (AllByRecursion (Later q)) (λ _. (tt, tt)) (λ _. tt)
 
-  unended-later : (m : Mode) → OpenedLater m → All (Later q) (unended m)
+  unended-later : (m : Mode) → OpenedLater m → AllByRecursion (Later q) (unended m)
   unended-later (gap early fresh) o = tt
   unended-later (inside Word early s w) o = (o, tt)
   unended-later (inside Line early s w) o = (tt, tt)
 
-  scan-later : (m : Mode) (p : ℕ) (bs : List ℕ) → q ≤ p → OpenedLater m → All (Later q) (scan m p bs)
+  scan-later : (m : Mode) (p : ℕ) (bs : List ℕ) → q ≤ p → OpenedLater m → AllByRecursion (Later q) (scan m p bs)
   scan-later m p [] h o = unended-later m o
   scan-later m p (b ∷ bs) h o =
       All-append (Later q) (ended m b) (scan (next_mode m p b) (p + 1) bs) (ended-later m b o)
@@ -122,7 +122,7 @@ of_front m p (b ∷ bs) = ended m b ++ of_front (next_mode m p b) (p + 1) bs
 
 -- first the pieces ps, then only words at the place q or later
 abbrev Parted : ℕ → List Piece → List Piece → Type 0
-Parted q ps all = (more : List Piece) × (all ≡ ps ++ more) × All (Later q) more
+Parted q ps all = (more : List Piece) × (all ≡ ps ++ more) × AllByRecursion (Later q) more
 
 part_here : (q : ℕ) (m : Mode) (p : ℕ) (back : List ℕ) → Apart back → q ≤ p → Parted q (open_word m) (scan m p back)
 part_here q (gap early fresh) p back apart h = (_, refl, scan-later q (gap early fresh) p back h tt)

@@ -3,7 +3,7 @@ use Rattle.std.proofs.Common.{◌≡◌, ℕ, zero, suc, ◌-◌, ◌<◌, ◌�
 use mathlib.Core.List.{nil≢cons, cons≢nil}
 use mathlib.Core.Logic.Iff
 use lib.Dec.{eqb-suc-zero}
-use Rattle.std.specs.List.{flat_map, AllByRecursion as All}
+use Rattle.std.specs.List.{flat_map, AllByRecursion}
 use Rattle.std.specs.Fmt.{signed_decimal}
 use Rattle.std.specs.Str.{bytes_eq}
 use Rattle.std.proofs.lemmas.Fmt.{decimal_digit}
@@ -124,13 +124,13 @@ refused_says f cs never = (λ (_, e). let no : ◌≡◌ {A = ℕ} 0 1 = cc in a
 -- the words ws say m clauses cs over n variables; no word says a number above 99999
 abbrev ClausesSaid : ℕ → ℕ → List (List ℕ) → List (List ℤ) → Type 0
 ClausesSaid n m ws cs =
-    (length cs ≡ m) × (ws ≡ flat_map clause_words cs) × All (λ c. (length c ≤ most_literals) × All (Literal (min n 99999)) c) cs
+    (length cs ≡ m) × (ws ≡ flat_map clause_words cs) × AllByRecursion (λ c. (length c ≤ most_literals) × AllByRecursion (Literal (min n 99999)) c) cs
 
 -- the words ws say `left` clauses cs, where the literals ls of the first one are read already
 abbrev RestSaid : ℕ → ℕ → List ℤ → List (List ℕ) → List (List ℤ) → Type 0
 RestSaid n left ls ws cs =
     (xs : List ℤ) × (ds : List (List ℤ)) × (rest : List (List ℕ)) × (cs ≡ (ls ++ xs) ∷ ds) × (ws ≡ clause_words xs ++ rest)
-    × (length xs ≤ most_literals - length ls) × All (Literal (min n 99999)) xs × ClausesSaid n (left - 1) rest ds
+    × (length xs ≤ most_literals - length ls) × AllByRecursion (Literal (min n 99999)) xs × ClausesSaid n (left - 1) rest ds
 
 -- in a state, the words ws that are left say the clauses cs that are left
 abbrev Said : ℕ → State → List ℤ → List (List ℕ) → List (List ℤ) → Type 0

@@ -1,6 +1,6 @@
 -- What is written is read: its words are those that say its clauses. Assumes nothing.
 use Rattle.std.proofs.Common.{◌≡◌, ℕ, suc, ◌+◌, ◌<◌, ◌≤◌, Bool, true, false, List, [], ◌∷◌, ◌++◌, length, ℤ, pos, negsuc, nat_abs, codes, decimal, sym, refl, ap, ◌∙◌, append_assoc, append-nil, arith}
-use Rattle.std.specs.List.{flat_map, AllByRecursion as All}
+use Rattle.std.specs.List.{flat_map, AllByRecursion}
 use Rattle.std.specs.Fmt.{signed_decimal}
 use Rattle.std.proofs.lemmas.Fmt.{decimal_nonempty, digits_decimal}
 use Rattle.std.proofs.lemmas.Bool.{le-ltb, and_parts}
@@ -18,7 +18,7 @@ use Rattle.text_laws.proofs.Sound.{sound_texts, line-sizes}
 
 -- bytes that part no words
 abbrev Inner : List ℕ → Type 0
-Inner w = All (λ b. parts_words b ≡ false) w
+Inner w = AllByRecursion (λ b. parts_words b ≡ false) w
 
 digits_inner : (ds : List ℕ) → all_digits ds ≡ true → Inner ds
 digits_inner [] h = tt
@@ -55,12 +55,12 @@ next_word (c ∷ w) b rest ws i h more fresh p = rw i.1.0 (rest_of_word p (p + 1
 
 -- a clause's line has the clause's words, and so have the lines of all clauses
 module _ (n : ℕ) (few : n < 100000) where
-  clause_line-words : (xs : List ℤ) (rest : List ℕ) (ws : List (List ℕ)) → All (Literal n) xs → AreWords rest ws → AreWords (clause_line xs ++ rest) (clause_words xs ++ ws)
+  clause_line-words : (xs : List ℤ) (rest : List ℕ) (ws : List (List ℕ)) → AllByRecursion (Literal n) xs → AreWords rest ws → AreWords (clause_line xs ++ rest) (clause_words xs ++ ws)
   clause_line-words [] rest ws a more = next_word (48 ∷ []) 10 rest ws (omega arith, (refl, tt)) refl more
   clause_line-words (x ∷ xs) rest ws a more =
       rw append_assoc (next_word (signed_decimal x) 32 (clause_line xs ++ rest) (clause_words xs ++ ws) (signed_word x (omega arith)) refl (clause_line-words xs rest ws a.1 more))
 
-  clause-lines-words : (cs : List (List ℤ)) → All (λ c. (length c ≤ most_literals) × All (Literal n) c) cs → AreWords (flat_map clause_line cs) (flat_map clause_words cs)
+  clause-lines-words : (cs : List (List ℤ)) → AllByRecursion (λ c. (length c ≤ most_literals) × AllByRecursion (Literal n) c) cs → AreWords (flat_map clause_line cs) (flat_map clause_words cs)
   clause-lines-words [] a = λ fresh p. refl
   clause-lines-words (c ∷ cs) a = clause_line-words c (flat_map clause_line cs) (flat_map clause_words cs) a.0.1 (clause-lines-words cs a.1)
 
