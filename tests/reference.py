@@ -9,7 +9,7 @@ of more than 128 literals are rare among them.
 
   tests/reference.py [PROGRAM] [COUNT] [SEED]
 
-runs PROGRAM (default target/bin/solve) on COUNT random texts (default 3000),
+runs PROGRAM (default crates/solve/out/solve) on COUNT random texts (default 3000),
 compares what it prints, and ends with a line 'N texts, M differences'.
 """
 import random
@@ -130,7 +130,7 @@ def random_text(rng):
 
 
 def main():
-    program = sys.argv[1] if len(sys.argv) > 1 else 'target/bin/solve'
+    program = sys.argv[1] if len(sys.argv) > 1 else 'crates/solve/out/solve'
     count = int(sys.argv[2]) if len(sys.argv) > 2 else 3000
     rng = random.Random(int(sys.argv[3]) if len(sys.argv) > 3 else 1)
     wrong, kinds = 0, {}

@@ -4,7 +4,7 @@ use Rattle.std.specs.List.{flat_map, AllByRecursion}
 use Rattle.std.specs.Fmt.{signed_decimal}
 use Rattle.text.specs.Limits.{most_literals, most_clauses}
 
--- a literal of one of n variables: `nat_abs x` is its variable
+-- a literal of one of n variables: `unsigned_abs x` is its variable
 abbrev pub Literal : ℕ → ℤ → Type 0
 Literal n x = (0 < unsigned_abs x) × (unsigned_abs x ≤ n)
 
