@@ -1,6 +1,7 @@
 -- The lines of a book: where each comes from, and the four facts that every
 -- book keeps. A book is the list of a session's lines, numbered from 1,
--- oldest first. Only this file looks into an origin. Assumes nothing.
+-- oldest first. Definitions look into an origin here alone, but for the crate
+-- `clause_laws`, which says the four facts line by line. Assumes nothing.
 use Rattle.std.specs.Prelude.{ℕ, zero, suc, Bool, true, false, cond, not, ◌&&◌, List, [], ◌∷◌, ◌++◌, map, take, drop, Some, None, Option}
 use Rattle.words.specs.Bits.{keep}
 use Rattle.clauses.specs.declared.clause.Clause.{Clause}

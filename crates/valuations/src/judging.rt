@@ -12,7 +12,9 @@ use words::sets;
 pub fn is_broken<V: Valuation>(valuation: &V, clause: &Clause) -> bool
     ensures value { result ≡ broken (V.Valuation.values valuation.now) (signs clause.now) }
 {
-    (clause.pos & !valuation.falses()) | (clause.neg & !valuation.trues()) == 0
+    let falses = valuation.falses();
+    let trues = valuation.trues();
+    (clause.pos & !falses) | (clause.neg & !trues) == 0
 }
 
 // It holds the literal, this one is true, and its others are false.

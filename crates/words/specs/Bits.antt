@@ -1,7 +1,7 @@
 -- The bits of a word, and the variables that they stand for. Assumes nothing.
 use Rattle.std.specs.Prelude.{◌≡◌, ℕ, zero, suc, ◌-◌, ◌/◌, ◌%◌, ◌^◌, ◌<◌, ◌≤◌, Bool, true, false, not, ◌&&◌, List, [], ◌∷◌, Some, None, Option, ◌==◌, nat_le, nat_lt}
 
--- how many bits a word has; the code has the same number in lib.rt
+-- how many bits a word has; the code has the same number in sets.rt
 abbrev pub width : ℕ
 width = 64
 
