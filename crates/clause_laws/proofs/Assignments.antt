@@ -29,7 +29,7 @@ both_ways_met (b ∷ a) (s ∷ c) w e =
 
 -- ---- broken or met
 
-neither : (x y : Bool) → (not x && not y) ≡ not (x || y)
+pub neither : (x y : Bool) → (not x && not y) ≡ not (x || y)
 neither true y = refl
 neither false y = refl
 

@@ -5,23 +5,23 @@ use Rattle.words.specs.Bits.{keep}
 use Rattle.lines.specs.declared.line.Origin.{Origin}
 use Rattle.lines.specs.declared.line.Origin.TheVariants.{Given, Resolved, Widened}
 use Rattle.lines.specs.declared.line.Line.{Line}
-use Rattle.clauses.specs.Tests.{any, all}
+use Rattle.std.specs.List.{list_any, list_all}
 use Rattle.clauses.specs.Values.{Values}
 use Rattle.clauses.specs.Clauses.{Signs, empty, clean, within, meets, same, included, clash_in, resolvent}
 use Rattle.lines.specs.Lines.{clause_of, clauses, given, givens, line, follows, follow, apart, keeps}
-use Rattle.clauses.proofs.Tests.{all_push}
+use Rattle.std.proofs.lemmas.List.Folds.{list_all-append}
 use Rattle.lines.proofs.Resolution.{empty-meets, same_meets, widening_sound, resolution_sound}
 
 -- ---- lists of clauses
 
-found : (p q : Signs → Bool) (k : ℕ) (cs : List Signs) → all q cs ≡ true → any p (line (suc k) cs) ≡ true → (g : Signs) × (p g ≡ true) × (q g ≡ true)
+found : (p q : Signs → Bool) (k : ℕ) (cs : List Signs) → list_all q cs ≡ true → list_any p (line (suc k) cs) ≡ true → (g : Signs) × (p g ≡ true) × (q g ≡ true)
 found p q zero [] a h = absurd (false≢true h)
 found p q (suc k) [] a h = absurd (false≢true h)
-found p q zero (c ∷ cs) a h = (c, ⊎_elim (λ x. x) (λ x. absurd (false≢true x)) (or_cases (p c) false h), (and_parts (q c) (all q cs) a).0)
-found p q (suc k) (c ∷ cs) a h = found p q k cs (and_parts (q c) (all q cs) a).1 h
+found p q zero (c ∷ cs) a h = (c, ⊎_elim (λ x. x) (λ x. absurd (false≢true x)) (or_cases (p c) false h), (and_parts (q c) (list_all q cs) a).0)
+found p q (suc k) (c ∷ cs) a h = found p q k cs (and_parts (q c) (list_all q cs) a).1 h
 
 -- A line that is named is one of the lines, and has what they all have.
-named : (p q : Signs → Bool) (k : ℕ) (cs : List Signs) → all q cs ≡ true → any p (line k cs) ≡ true → (g : Signs) × (p g ≡ true) × (q g ≡ true)
+named : (p q : Signs → Bool) (k : ℕ) (cs : List Signs) → list_all q cs ≡ true → list_any p (line k cs) ≡ true → (g : Signs) × (p g ≡ true) × (q g ≡ true)
 named p q zero cs a h = absurd (false≢true h)
 named p q (suc k) cs a h = found p q k cs a h
 
@@ -32,10 +32,10 @@ sound m c = clean c && meets m c
 
 follows-met :
     (m : Values) (older : List Signs) (o : Origin) (c : Signs)
-    → all (sound m) older ≡ true → follows older o c ≡ true → (given o ≡ true → meets m c ≡ true) → meets m c ≡ true
+    → list_all (sound m) older ≡ true → follows older o c ≡ true → (given o ≡ true → meets m c ≡ true) → meets m c ≡ true
 follows-met m older Given c a f h = h refl
 follows-met m older (Resolved v i j) c a f h =
-    let g = named (λ x. any (λ y. clash_in v x y && same c (resolvent v x y)) (line j older)) (sound m) i older a f in
+    let g = named (λ x. list_any (λ y. clash_in v x y && same c (resolvent v x y)) (line j older)) (sound m) i older a f in
     let d = named (λ y. clash_in v g.0 y && same c (resolvent v g.0 y)) (sound m) j older a g.1 in
     let p = and_parts (clean g.0) (meets m g.0) g.2 in
     let q = and_parts (clean d.0) (meets m d.0) d.2 in
@@ -47,43 +47,43 @@ follows-met m older (Widened i) c a f h =
     widening_sound g.0 c m g.1 (and_parts (clean g.0) (meets m g.0) g.2).1
 
 -- the given clause is met, and so are those after it
-kept_parts : (b : Bool) (q : Signs → Bool) (c : Signs) (cs : List Signs) → all q (keep b c cs) ≡ true → (b ≡ true → q c ≡ true) × (all q cs ≡ true)
-kept_parts true q c cs h = let p = and_parts (q c) (all q cs) h in ((λ _. p.0), p.1)
+kept_parts : (b : Bool) (q : Signs → Bool) (c : Signs) (cs : List Signs) → list_all q (keep b c cs) ≡ true → (b ≡ true → q c ≡ true) × (list_all q cs ≡ true)
+kept_parts true q c cs h = let p = and_parts (q c) (list_all q cs) h in ((λ _. p.0), p.1)
 kept_parts false q c cs h = ((λ e. absurd (false≢true e)), h)
 
 follow-met :
-    (m : Values) (older : List Signs) (ls : List Line) → all (sound m) older ≡ true → all clean (clauses ls) ≡ true → follow older ls ≡ true
-    → all (meets m) (givens ls) ≡ true → all (meets m) (clauses ls) ≡ true
+    (m : Values) (older : List Signs) (ls : List Line) → list_all (sound m) older ≡ true → list_all clean (clauses ls) ≡ true → follow older ls ≡ true
+    → list_all (meets m) (givens ls) ≡ true → list_all (meets m) (clauses ls) ≡ true
 follow-met m older [] a e f h = refl
 follow-met m older (l ∷ ls) a e f h =
     let c = clause_of l in
-    let p = and_parts (clean c) (all clean (clauses ls)) e in
+    let p = and_parts (clean c) (list_all clean (clauses ls)) e in
     let q = and_parts (follows older l.origin c) (follow (older ++ (c ∷ [])) ls) f in
     let r = kept_parts (given l.origin) (meets m) c (givens ls) h in
     let k = follows-met m older l.origin c a q.0 r.0 in
-    let n = all_push (sound m) older c a (and_from (clean c) (meets m c) p.0 k) in
-    and_from (meets m c) (all (meets m) (clauses ls)) k (follow-met m (older ++ (c ∷ [])) ls n p.1 q.1 r.1)
+    let n : list_all (sound m) (older ++ (c ∷ [])) ≡ true = rw (list_all-append (sound m) older (c ∷ []), a, p.0, k) refl in
+    and_from (meets m c) (list_all (meets m) (clauses ls)) k (follow-met m (older ++ (c ∷ [])) ls n p.1 q.1 r.1)
 
-pub given-met : (n : ℕ) (ls : List Line) (m : Values) → keeps n ls ≡ true → all (meets m) (givens ls) ≡ true → all (meets m) (clauses ls) ≡ true
+pub given-met : (n : ℕ) (ls : List Line) (m : Values) → keeps n ls ≡ true → list_all (meets m) (givens ls) ≡ true → list_all (meets m) (clauses ls) ≡ true
 given-met n ls m k h =
-    let p = and_parts (all clean (clauses ls) && apart (clauses ls)) (all (within n) (clauses ls) && follow [] ls) k in
+    let p = and_parts (list_all clean (clauses ls) && apart (clauses ls)) (list_all (within n) (clauses ls) && follow [] ls) k in
     follow-met m [] ls refl
-    (and_parts (all clean (clauses ls)) (apart (clauses ls)) p.0).0
-    (and_parts (all (within n) (clauses ls)) (follow [] ls) p.1).1 h
+    (and_parts (list_all clean (clauses ls)) (apart (clauses ls)) p.0).0
+    (and_parts (list_all (within n) (clauses ls)) (follow [] ls) p.1).1 h
 
 -- ---- an empty line
 
-empty_unmet : (cs : List Signs) (m : Values) → any empty cs ≡ true → all (meets m) cs ≡ false
+empty_unmet : (cs : List Signs) (m : Values) → list_any empty cs ≡ true → list_all (meets m) cs ≡ false
 empty_unmet [] m h = absurd (false≢true h)
 empty_unmet (c ∷ cs) m h =
     ⊎_elim
-    (λ x. and_left (meets m c) (all (meets m) cs) (empty-meets c m x))
-    (λ x. and_right (meets m c) (all (meets m) cs) (empty_unmet cs m x))
-    (or_cases (empty c) (any empty cs) h)
+    (λ x. and_left (meets m c) (list_all (meets m) cs) (empty-meets c m x))
+    (λ x. and_right (meets m c) (list_all (meets m) cs) (empty_unmet cs m x))
+    (or_cases (empty c) (list_any empty cs) h)
 
-pub empty_refutes : (n : ℕ) (ls : List Line) (m : Values) → keeps n ls ≡ true → any empty (clauses ls) ≡ true → all (meets m) (givens ls) ≡ false
-empty_refutes n ls m k e = go (all (meets m) (givens ls)) refl
+pub empty_refutes : (n : ℕ) (ls : List Line) (m : Values) → keeps n ls ≡ true → list_any empty (clauses ls) ≡ true → list_all (meets m) (givens ls) ≡ false
+empty_refutes n ls m k e = go (list_all (meets m) (givens ls)) refl
   where
-    go : (b : Bool) → all (meets m) (givens ls) ≡ b → b ≡ false
+    go : (b : Bool) → list_all (meets m) (givens ls) ≡ b → b ≡ false
     go true h = sym (given-met n ls m k h) ∙ empty_unmet (clauses ls) m e
     go false h = refl

@@ -2,10 +2,11 @@
 -- how many different ones there are at most. Assumes nothing.
 use Rattle.std.proofs.Common.{◌≡◌, ℕ, zero, suc, ◌+◌, ◌^◌, ◌<◌, ◌≤◌, Bool, true, false, not, ◌&&◌, ◌||◌, List, [], ◌∷◌, length, sym, refl, ap, ◌∙◌, ap₂, pow-suc, arith}
 use Rattle.std.proofs.lemmas.Bool.{false≢true, and_parts, and_from, or_left, or_right, not-true, not_from_false}
-use Rattle.clauses.specs.Tests.{any, all}
+use Rattle.std.specs.List.{list_any, list_all}
 use Rattle.clauses.specs.Literals.{once}
 use Rattle.clauses.specs.Clauses.{Sign, sign, Signs, blank, absent, one_way, empty, clean, within, same_sign, same, has}
 use Rattle.lines.specs.Lines.{apart}
+use Rattle.clauses.proofs.Literals.{holds_same}
 use Rattle.clause_laws.specs.Laws.{AtMostThreeToTheN}
 
 -- ---- a clause brought to n signs
@@ -43,15 +44,8 @@ pub fit_has : (n : ℕ) (c : Signs) (cs : List Signs) → within n c ≡ true �
 fit_has n c [] w = refl
 fit_has n c (d ∷ cs) w = ap₂ {C = Bool} (λ x y. x || y) (fit_same n c d w) (fit_has n c cs w)
 
-sign_self : (s : Sign) → same_sign s s ≡ true
-sign_self (sign true true) = refl
-sign_self (sign true false) = refl
-sign_self (sign false true) = refl
-sign_self (sign false false) = refl
-
 same_self : (c : Signs) → same c c ≡ true
-same_self [] = refl
-same_self (s ∷ c) = and_from (same_sign s s) (same c c) (sign_self s) (same_self c)
+same_self c = holds_same c c (λ l. refl)
 
 -- ---- sums over the three signs that hold no variable both ways
 
@@ -118,23 +112,23 @@ one_more n c cs k w new =
     counted_strict n (λ d. has d cs) (λ d. has d (c ∷ cs)) (λ d h. or_right (same d c) (has d cs) h)
     c k (fit_has n c cs w ∙ new) (or_left (same (fit n c) c) (has (fit n c) cs) (fit_same n c c w ∙ same_self c))
 
-apart_count : (n : ℕ) (cs : List Signs) → all clean cs ≡ true → all (within n) cs ≡ true → apart cs ≡ true
+apart_count : (n : ℕ) (cs : List Signs) → list_all clean cs ≡ true → list_all (within n) cs ≡ true → apart cs ≡ true
     → length cs ≤ counted n (λ d. has d cs)
 apart_count n [] k w a = omega arith
 apart_count n (c ∷ cs) k w a =
-    let k' = and_parts (clean c) (all clean cs) k in
-    let w' = and_parts (within n c) (all (within n) cs) w in
+    let k' = and_parts (clean c) (list_all clean cs) k in
+    let w' = and_parts (within n c) (list_all (within n) cs) w in
     let a' = and_parts (not (has c cs)) (apart cs) a in
     let rest = apart_count n cs k'.1 w'.1 a'.1 in
     let more = one_more n c cs k'.0 w'.0 (not-true (has c cs) a'.0) in
     omega arith
 
-apart_bound : (n : ℕ) (cs : List Signs) → all clean cs ≡ true → all (within n) cs ≡ true → apart cs ≡ true → length cs ≤ 3 ^ n
+apart_bound : (n : ℕ) (cs : List Signs) → list_all clean cs ≡ true → list_all (within n) cs ≡ true → apart cs ≡ true → length cs ≤ 3 ^ n
 apart_bound n cs k w a = omega (arith, apart_count n cs k w a, counted_bound n (λ d. has d cs))
 
 -- where the empty clause is missing, there is room for it
 pub three_to_the_n : AtMostThreeToTheN
 three_to_the_n n cs k w a = (
   apart_bound n cs k w a,
-  λ none. apart_bound n ([] ∷ cs) k w (and_from (not (any empty cs)) (apart cs) (not_from_false (any empty cs) none) a),
+  λ none. apart_bound n ([] ∷ cs) k w (and_from (not (list_any empty cs)) (apart cs) (not_from_false (list_any empty cs) none) a),
 )

@@ -10,11 +10,12 @@ use Rattle.std.proofs.lemmas.Bool.Decides.{Decides-like, Decides-not, Decides-an
 use Rattle.lines.specs.declared.line.Origin.{Origin}
 use Rattle.lines.specs.declared.line.Origin.TheVariants.{Given, Resolved, Widened}
 use Rattle.lines.specs.declared.line.Line.{Line}
-use Rattle.clauses.specs.Tests.{any, all}
+use Rattle.std.specs.List.{list_any, list_all}
 use Rattle.clauses.specs.Clauses.{sign, Signs, holds, clean, within, same, has, included, clash_in, resolvent}
 use Rattle.lines.specs.Lines.{clause_of, clauses, line, follows, follow, apart, keeps}
 use Rattle.clauses.proofs.Literals.{same-holds, holds_same, included-holds, holds-included, within-holds, holds-within}
 use Rattle.clause_laws.specs.Facts.{line_at, origins, Stands, of_variable, Follows, KeepingIsTheFourFacts}
+use Rattle.clause_laws.proofs.Assignments.{neither}
 use Rattle.clause_laws.proofs.Holding.{resolvent-holds}
 
 abbrev Alike : Signs → Signs → Type 0
@@ -36,10 +37,10 @@ by_number cs P r d =
     (λ h i l. subst P (place i) (h (suc i) (omega arith, omega arith))) d
 
 each_line : (p : Signs → Bool) (P : Signs → Type 0) → ((c : Signs) → Decides (p c) (P c))
-    → (cs : List Signs) → Decides (all p cs) ((k : ℕ) → Stands cs k → P (line_at cs k))
+    → (cs : List Signs) → Decides (list_all p cs) ((k : ℕ) → Stands cs k → P (line_at cs k))
 each_line p P each cs =
-    by_number cs (λ i. P (get_or cs i [])) (all p cs)
-    (Decides-like (all p cs) (λ h i l. All-get_or P cs i [] l h) (All-from_get_or P cs []) (Decides-by_and p P (all p) each refl (λ _ _. refl) cs))
+    by_number cs (λ i. P (get_or cs i [])) (list_all p cs)
+    (Decides-like (list_all p cs) (λ h i l. All-get_or P cs i [] l h) (All-from_get_or P cs []) (Decides-by_and p P (list_all p) each refl (λ _ _. refl) cs))
 
 -- ---- no variable both ways
 
@@ -69,14 +70,10 @@ one_way-clean (sign p q ∷ c) h = and_from (not (p && q)) (clean c) (go p q (h 
 
 -- ---- no two the same
 
-not-or : (x y : Bool) → not (x || y) ≡ (not x && not y)
-not-or true y = refl
-not-or false y = refl
-
 decides_new : (c : Signs) (cs : List Signs) → Decides (not (has c cs)) (AllByRecursion (λ d. Alike c d → ⊥) cs)
 decides_new c cs =
     Decides-by_and (λ d. not (same c d)) (λ d. Alike c d → ⊥) (λ ds. not (has c ds))
-    (λ d. Decides-not (same c d) (decides_same c d)) refl (λ d ds. not-or (same c d) (has c ds)) cs
+    (λ d. Decides-not (same c d) (decides_same c d)) refl (λ d ds. sym (neither (same c d) (has c ds))) cs
 
 abbrev Different : List Signs → ℕ → ℕ → Type 0
 Different cs i j = Alike (get_or cs i []) (get_or cs j []) → ⊥
@@ -111,19 +108,19 @@ decides_apart cs =
 -- ---- each follows
 
 decides_place : (p : Signs → Bool) (P : Signs → Type 0) → ((c : Signs) → Decides (p c) (P c))
-    → (i : ℕ) (cs : List Signs) → Decides (any p (take 1 (drop i cs))) ((i < length cs) × P (get_or cs i []))
+    → (i : ℕ) (cs : List Signs) → Decides (list_any p (take 1 (drop i cs))) ((i < length cs) × P (get_or cs i []))
 decides_place p P each zero [] = (λ e. absurd (false≢true e), λ h. absurd (omega (arith, h.0)))
 decides_place p P each (suc i) [] = (λ e. absurd (false≢true e), λ h. absurd (omega (arith, h.0)))
 decides_place p P each zero (c ∷ cs) = (λ e. (omega arith, (each c).0 (sym (or-false (p c)) ∙ e)), λ h. or-false (p c) ∙ (each c).1 h.1)
 decides_place p P each (suc i) (c ∷ cs) =
-    Decides-like (any p (take 1 (drop i cs))) (λ h. (omega (arith, h.0), h.1)) (λ h. (omega (arith, h.0), h.1)) (decides_place p P each i cs)
+    Decides-like (list_any p (take 1 (drop i cs))) (λ h. (omega (arith, h.0), h.1)) (λ h. (omega (arith, h.0), h.1)) (decides_place p P each i cs)
 
 -- the line that is named is there, and passes
 decides_line : (p : Signs → Bool) (P : Signs → Type 0) → ((c : Signs) → Decides (p c) (P c))
-    → (k : ℕ) (cs : List Signs) → Decides (any p (line k cs)) (Stands cs k × P (line_at cs k))
+    → (k : ℕ) (cs : List Signs) → Decides (list_any p (line k cs)) (Stands cs k × P (line_at cs k))
 decides_line p P each zero cs = (λ e. absurd (false≢true e), λ h. absurd (omega (arith, h.0.0)))
 decides_line p P each (suc i) cs =
-    Decides-like (any p (take 1 (drop i cs)))
+    Decides-like (list_any p (take 1 (drop i cs)))
     (λ h. ((omega arith, omega (arith, h.0)), subst (λ x. P (get_or cs x [])) (sym (place i)) h.1))
     (λ h. (omega (arith, h.0.1), subst (λ x. P (get_or cs x [])) (place i) h.1))
     (decides_place p P each i cs)
@@ -143,7 +140,7 @@ decides_follows older Given c = (λ _. tt, λ _. refl)
 decides_follows older (Resolved v i j) c =
     Decides-like (follows older (Resolved v i j) c)
     (λ h. (h.0, h.1.0, h.1.1.0, h.1.1.1)) (λ h. (h.0, (h.1, (h.2, h.3))))
-    (decides_line (λ g. any (λ h. clash_in v g h && same c (resolvent v g h)) (line j older))
+    (decides_line (λ g. list_any (λ h. clash_in v g h && same c (resolvent v g h)) (line j older))
     (λ g. Stands older j × Resolves v c g (line_at older j))
     (λ g. decides_line (λ h. clash_in v g h && same c (resolvent v g h)) (Resolves v c g) (decides_resolves v c g) j older) i older)
 decides_follows older (Widened i) c =
@@ -182,8 +179,8 @@ four_facts n ls =
     Decides-like (keeps n ls)
     (λ h. record { one_way = λ k v s. h.0.0 k s v; different = h.0.1; within = h.1.0; following = h.1.1 })
     (λ f. ((λ k s v. f.one_way k v s, f.different), (f.within, f.following)))
-    (Decides-and (all clean cs && apart cs) (all (within n) cs && follow [] ls)
-    (Decides-and (all clean cs) (apart cs) (each_line clean OneWay (λ c. (clean-one_way c, one_way-clean c)) cs) (decides_apart cs))
-    (Decides-and (all (within n) cs) (follow [] ls)
+    (Decides-and (list_all clean cs && apart cs) (list_all (within n) cs && follow [] ls)
+    (Decides-and (list_all clean cs) (apart cs) (each_line clean OneWay (λ c. (clean-one_way c, one_way-clean c)) cs) (decides_apart cs))
+    (Decides-and (list_all (within n) cs) (follow [] ls)
     (each_line (within n) (λ c. (l : ℤ) → holds l c ≡ true → nat_abs l ≤ n) (λ c. (within-holds n c, holds-within n c)) cs)
     (by_number cs (FollowsAt [] ls) (follow [] ls) (decides_follow [] ls))))

@@ -6,7 +6,7 @@ use lib.Dec.{eqb-zero-suc, eqb-suc-zero, eqb-suc-suc}
 use Rattle.std.specs.List.Sorted.{IsStrictlyIncreasing}
 use Rattle.std.proofs.lemmas.Bool.{false≢true, or_left, or_from, eq-eqb, ne_eqb}
 use Rattle.words.specs.Bits.{keep}
-use Rattle.clauses.specs.Tests.{any}
+use Rattle.std.specs.List.{list_any}
 use Rattle.clauses.specs.Clauses.{Sign, sign, Signs, blank, holds_plus, holds_minus, sign_at, holds, literals_from, clean, opposed, clash_in, clashes_from, union, changed, no_plus, no_minus}
 use Rattle.lines.proofs.Gathering.{holds-union}
 use Rattle.clause_laws.specs.Facts.{of_variable, AResolventHoldsTheRest, ToldInRisingOrder}
@@ -72,10 +72,10 @@ rising_climbs i (x ∷ y ∷ xs) r (suc k) h =
     let next : suc k + 1 ≡ suc (k + 1) = omega arith in
     rw next (rising_climbs (suc x) (y ∷ xs) r.1 k (omega arith))
 
-none_below : (v i : ℕ) (xs : List ℕ) → Rising i xs → v < i → any (eqb v) xs ≡ false
+none_below : (v i : ℕ) (xs : List ℕ) → Rising i xs → v < i → list_any (eqb v) xs ≡ false
 none_below v i [] r h = refl
 none_below v i (x ∷ xs) r h =
-    or_from (eqb v x) (any (eqb v) xs) (ne_eqb v x (λ e. omega (arith, r.0))) (none_below v (suc x) xs r.1 (omega (arith, r.0)))
+    or_from (eqb v x) (list_any (eqb v) xs) (ne_eqb v x (λ e. omega (arith, r.0))) (none_below v (suc x) xs r.1 (omega (arith, r.0)))
 
 -- ---- clashes
 
@@ -84,15 +84,15 @@ clashes_rise i [] d = tt
 clashes_rise i (s ∷ c) [] = tt
 clashes_rise i (s ∷ c) (t ∷ d) = rising_keep (opposed s t) i (clashes_from (suc i) c d) (clashes_rise (suc i) c d)
 
-kept : (b : Bool) (i : ℕ) (xs : List ℕ) → Rising (suc i) xs → any (eqb (i + 0)) (keep b i xs) ≡ b
-kept true i xs r = or_left (eqb (i + 0) i) (any (eqb (i + 0)) xs) (eq-eqb (i + 0) i (omega arith))
+kept : (b : Bool) (i : ℕ) (xs : List ℕ) → Rising (suc i) xs → list_any (eqb (i + 0)) (keep b i xs) ≡ b
+kept true i xs r = or_left (eqb (i + 0) i) (list_any (eqb (i + 0)) xs) (eq-eqb (i + 0) i (omega arith))
 kept false i xs r = none_below (i + 0) (suc i) xs r (omega arith)
 
-passed : (b : Bool) (v i : ℕ) (xs : List ℕ) → i < v → any (eqb v) (keep b i xs) ≡ any (eqb v) xs
+passed : (b : Bool) (v i : ℕ) (xs : List ℕ) → i < v → list_any (eqb v) (keep b i xs) ≡ list_any (eqb v) xs
 passed true v i xs h = rw (ne_eqb v i (λ e. omega arith))
 passed false v i xs h = refl
 
-clashes-at : (i j : ℕ) (c d : Signs) → any (eqb (i + j)) (clashes_from i c d) ≡ clash_in (suc j) c d
+clashes-at : (i j : ℕ) (c d : Signs) → list_any (eqb (i + j)) (clashes_from i c d) ≡ clash_in (suc j) c d
 clashes-at i j [] d = refl
 clashes-at i j (s ∷ c) [] =
     sym (ap₂ {C = Bool} (λ x y. x || y) (and-false (holds_plus (sign_at (s ∷ c) j))) (and-false (holds_minus (sign_at (s ∷ c) j))))
@@ -101,14 +101,14 @@ clashes-at i zero (sign p q ∷ c) (sign r u ∷ d) =
 clashes-at i (suc j) (s ∷ c) (t ∷ d) =
     let next : i + suc j ≡ suc i + j = omega arith in
     passed (opposed s t) (i + suc j) i (clashes_from (suc i) c d) (omega arith)
-    ∙ ap (λ (v : ℕ). any (eqb v) (clashes_from (suc i) c d)) next
+    ∙ ap (λ (v : ℕ). list_any (eqb v) (clashes_from (suc i) c d)) next
     ∙ clashes-at (suc i) j c d
 
-clashes_are : (c d : Signs) (v : ℕ) → any (eqb v) (clashes_from 1 c d) ≡ clash_in v c d
+clashes_are : (c d : Signs) (v : ℕ) → list_any (eqb v) (clashes_from 1 c d) ≡ clash_in v c d
 clashes_are c d zero = none_below 0 1 (clashes_from 1 c d) (clashes_rise 1 c d) (omega arith)
 clashes_are c d (suc j) =
     let at : suc j ≡ 1 + j = omega arith in
-    ap (λ (v : ℕ). any (eqb v) (clashes_from 1 c d)) at ∙ clashes-at 1 j c d
+    ap (λ (v : ℕ). list_any (eqb v) (clashes_from 1 c d)) at ∙ clashes-at 1 j c d
 
 -- ---- literals
 

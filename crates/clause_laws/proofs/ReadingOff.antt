@@ -5,7 +5,7 @@ use Rattle.std.proofs.lemmas.Bool.{false≢true, and_parts, and_from, not-true, 
 use Rattle.words.specs.Bits.{later}
 use Rattle.clauses.specs.declared.value.Value.{Value}
 use Rattle.clauses.specs.declared.value.Value.TheVariants.{True, False, Unset}
-use Rattle.clauses.specs.Tests.{all}
+use Rattle.std.specs.List.{list_all}
 use Rattle.clauses.specs.Values.{Values, valued, assigned}
 use Rattle.clauses.specs.Clauses.{Sign, sign, Signs, empty, false_at, broken, same, has, opposed, clashes_from, clashes, either, union, changed, no_plus, no_minus, resolvent}
 use Rattle.lines.specs.ReadingOff.{in_one, resolvents, closed, breaks, read_on}
@@ -80,8 +80,8 @@ module _ (cs : List Signs) (holds-resolvents : closed cs ≡ true) where
   -- the book has the resolvent of two that clash only in the variable at place k
   has_rest : (c d : Signs) (k : ℕ) → Of cs c → Of cs d → clashes c d ≡ suc k ∷ [] → has (rest k c d) cs ≡ true
   has_rest c d k of_c of-d e =
-      let h = of-d (λ y. all (λ r. has r cs) (resolvents c y)) (of_c (λ x. all (λ y. all (λ r. has r cs) (resolvents x y)) cs) holds-resolvents) in
-      (and_parts (has (rest k c d) cs) true (subst (λ rs. all (λ r. has r cs) rs ≡ true) (resolved c d k e) h)).0
+      let h = of-d (λ y. list_all (λ r. has r cs) (resolvents c y)) (of_c (λ x. list_all (λ y. list_all (λ r. has r cs) (resolvents x y)) cs) holds-resolvents) in
+      (and_parts (has (rest k c d) cs) true (subst (λ rs. list_all (λ r. has r cs) rs ≡ true) (resolved c d k e) h)).0
 
   -- one more variable
   next : (a : List Bool) → breaks a cs ≡ false → breaks (a ++ (not (breaks (a ++ (true ∷ [])) cs) ∷ [])) cs ≡ false

@@ -1,6 +1,6 @@
 -- The worked examples, by computation. Assumes nothing.
 use Rattle.std.specs.Prelude.{◌≡◌, ◌-◌, ◌^◌, true, false, [], ◌∷◌, map, ℤ, pos, negsuc}
-use Rattle.clauses.specs.Tests.{all}
+use Rattle.std.specs.List.{list_all}
 use Rattle.clauses.specs.Values.{assigned, full}
 use Rattle.clauses.specs.Literals.{names, tautology, met}
 use Rattle.clauses.specs.Clauses.{literals, size, empty, within, broken, clashes, critical, bar}
@@ -37,9 +37,9 @@ Becoming =
     × (tautology (two ∷ one ∷ two ∷ []) ≡ false)
     × (literals (set_of (two ∷ one ∷ two ∷ [])) ≡ one ∷ two ∷ [])
     × (size (set_of (two ∷ one ∷ two ∷ [])) ≡ 2)
-    × (all (names 1) (one ∷ not_one ∷ []) ≡ true)
-    × (all (names 1) (one ∷ two ∷ []) ≡ false)
-    × (all (names 1) (pos 0 ∷ []) ≡ false)
+    × (list_all (names 1) (one ∷ not_one ∷ []) ≡ true)
+    × (list_all (names 1) (one ∷ two ∷ []) ≡ false)
+    × (list_all (names 1) (pos 0 ∷ []) ≡ false)
 
 -- With both variables false (-1 2) is critical on -1 and (-1 -2) on nothing,
 -- (1 2) is broken, and it is the bar.

@@ -5,7 +5,7 @@ use Rattle.std.specs.List.Sorted.{IsStrictlyIncreasing}
 use Rattle.lines.specs.declared.line.Origin.{Origin}
 use Rattle.lines.specs.declared.line.Origin.TheVariants.{Given, Resolved, Widened}
 use Rattle.lines.specs.declared.line.Line.{Line}
-use Rattle.clauses.specs.Tests.{any}
+use Rattle.std.specs.List.{list_any}
 use Rattle.clauses.specs.Clauses.{Signs, holds, literals, clean, clash_in, clashes, resolvent}
 use Rattle.lines.specs.Lines.{clauses, keeps}
 
@@ -58,5 +58,5 @@ AResolventHoldsTheRest = (v : ℕ) (c d : Signs) (l : ℤ) → holds l (resolven
 -- are told by rising variable.
 abbrev pub ToldInRisingOrder : Type 0
 ToldInRisingOrder =
-    ((c d : Signs) → ((v : ℕ) → any (nat_eq v) (clashes c d) ≡ clash_in v c d) × IsStrictlyIncreasing (clashes c d))
+    ((c d : Signs) → ((v : ℕ) → list_any (nat_eq v) (clashes c d) ≡ clash_in v c d) × IsStrictlyIncreasing (clashes c d))
     × ((c : Signs) → clean c ≡ true → IsStrictlyIncreasing (map unsigned_abs (literals c)))

@@ -2,7 +2,7 @@
 use Rattle.std.specs.Prelude.{◌≡◌, ℕ, ◌^◌, ◌<◌, ◌≤◌, Bool, true, false, not, ◌&&◌, ◌||◌, List, length, ℤ, ◌==◌, unsigned_abs}
 use Rattle.words.specs.Bits.{width, bit, listed}
 use Rattle.lines.specs.declared.line.Line.{Line}
-use Rattle.clauses.specs.Tests.{any, all}
+use Rattle.std.specs.List.{list_any, list_all}
 use Rattle.clauses.specs.Values.{Values, is_true, is_false, assigned, full}
 use Rattle.clauses.specs.Sets.{SetOf}
 use Rattle.clauses.specs.Literals.{names, same_literal, value_of, among, met, tautology, set_size}
@@ -24,8 +24,8 @@ abbrev pub ValuesJudgeByLiterals : Type 0
 ValuesJudgeByLiterals =
     (m : Values) (c : Signs)
     → (meets m c ≡ met m (literals c))
-    × (broken m c ≡ all (λ l. is_false (value_of m l)) (literals c))
-    × ((l : ℤ) → critical m l c ≡ ((among l (literals c) && is_true (value_of m l)) && all (λ k. same_literal k l || is_false (value_of m k)) (literals c)))
+    × (broken m c ≡ list_all (λ l. is_false (value_of m l)) (literals c))
+    × ((l : ℤ) → critical m l c ≡ ((among l (literals c) && is_true (value_of m l)) && list_all (λ k. same_literal k l || is_false (value_of m k)) (literals c)))
 
 -- It is empty when it has no literal, holds no variable both ways when it
 -- isn't a tautology, and two clauses are the same when they hold the same.
@@ -67,7 +67,7 @@ OnlyItsVariablesCount =
 -- an assignment of its variables meets a tautology.
 abbrev pub AGivenClauseIsItsSet : Type 0
 AGivenClauseIsItsSet =
-    (n : ℕ) (xs : List ℤ) → all (names n) xs ≡ true
+    (n : ℕ) (xs : List ℤ) → list_all (names n) xs ≡ true
     → ((c : Signs) → SetOf xs c
     → ((m : Values) → meets m c ≡ met m xs) × (size c ≡ set_size xs) × (clean c ≡ not (tautology xs)) × (within n c ≡ true))
     × ((a : List Bool) → n ≤ length a → tautology xs ≡ true → met (assigned a) xs ≡ true)
@@ -92,12 +92,12 @@ WideningIsSound = (c d : Signs) (m : Values) → included c d ≡ true → meets
 -- line.
 abbrev pub GivenMetThenAll : Type 0
 GivenMetThenAll =
-    (n : ℕ) (ls : List Line) (m : Values) → keeps n ls ≡ true → all (meets m) (givens ls) ≡ true → all (meets m) (clauses ls) ≡ true
+    (n : ℕ) (ls : List Line) (m : Values) → keeps n ls ≡ true → list_all (meets m) (givens ls) ≡ true → list_all (meets m) (clauses ls) ≡ true
 
 -- So where a line is empty, nothing meets all given lines.
 abbrev pub EmptyLineRefutes : Type 0
 EmptyLineRefutes =
-    (n : ℕ) (ls : List Line) (m : Values) → keeps n ls ≡ true → any empty (clauses ls) ≡ true → all (meets m) (givens ls) ≡ false
+    (n : ℕ) (ls : List Line) (m : Values) → keeps n ls ≡ true → list_any empty (clauses ls) ≡ true → list_all (meets m) (givens ls) ≡ false
 
 -- ---- how many
 
@@ -105,15 +105,15 @@ EmptyLineRefutes =
 -- and one fewer without the empty one.
 abbrev pub AtMostThreeToTheN : Type 0
 AtMostThreeToTheN =
-    (n : ℕ) (cs : List Signs) → all clean cs ≡ true → all (within n) cs ≡ true → apart cs ≡ true
-    → (length cs ≤ 3 ^ n) × (any empty cs ≡ false → length cs < 3 ^ n)
+    (n : ℕ) (cs : List Signs) → list_all clean cs ≡ true → list_all (within n) cs ≡ true → apart cs ≡ true
+    → (length cs ≤ 3 ^ n) × (list_any empty cs ≡ false → length cs < 3 ^ n)
 
 -- ---- reading off
 
 -- Where no clause is empty and every resolvent of two that clash in exactly
 -- one variable is there, the assignment read off breaks none.
 abbrev pub ReadingOffBreaksNone : Type 0
-ReadingOffBreaksNone = (n : ℕ) (cs : List Signs) → any empty cs ≡ false → closed cs ≡ true → breaks (read_off n cs) cs ≡ false
+ReadingOffBreaksNone = (n : ℕ) (cs : List Signs) → list_any empty cs ≡ false → closed cs ≡ true → breaks (read_off n cs) cs ≡ false
 
 -- ---- the bar
 

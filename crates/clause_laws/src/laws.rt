@@ -5,7 +5,7 @@ ghost use Rattle.clause_laws.specs.Facts.{KeepingIsTheFourFacts, AResolventHolds
 ghost use Rattle.clause_laws.specs.Laws.{AClauseIsItsLiterals, ValuesJudgeByLiterals, TestsJudgeByLiterals, EdgesAreMetSo, BrokenOrMet, OnlyItsVariablesCount, AGivenClauseIsItsSet, ResolutionIsSound, ResolutionHasNoOrder, WideningIsSound, GivenMetThenAll, EmptyLineRefutes, AtMostThreeToTheN, ReadingOffBreaksNone, TheBarIsBroken};
 
 // The definitions by places say what they should of the literals.
-pub fn clauses_are_sets() -> u8
+pub fn clauses_are_sets()
     ensures literals { AClauseIsItsLiterals }
     ensures values { ValuesJudgeByLiterals }
     ensures tests { TestsJudgeByLiterals }
@@ -15,13 +15,11 @@ pub fn clauses_are_sets() -> u8
     ensures given { AGivenClauseIsItsSet }
     ensures bar { TheBarIsBroken }
     ensures rising { ToldInRisingOrder }
-{
-    0
-}
+{}
 
 // The four facts line by line, what follows from what, how many clauses there
 // are, and what reading off gives.
-pub fn books_are_sound() -> u8
+pub fn books_are_sound()
     ensures facts { KeepingIsTheFourFacts }
     ensures rest { AResolventHoldsTheRest }
     ensures resolution { ResolutionIsSound }
@@ -31,16 +29,13 @@ pub fn books_are_sound() -> u8
     ensures empty { EmptyLineRefutes }
     ensures count { AtMostThreeToTheN }
     ensures reading { ReadingOffBreaksNone }
-{
-    0
-}
+{}
 
-pub fn examples_hold() -> u8
+#[tactic(auto, unfolding(words::specs::Bits::bit, clauses::specs::Clauses::bar, clauses::specs::Sets::set_of, clauses::specs::Words::signs))]
+pub fn examples_hold()
     ensures resolving { Resolving }
     ensures becoming { Becoming }
     ensures judging { Judging }
     ensures edges { Edges }
     ensures reading { Reading }
-{
-    0
-}
+{}

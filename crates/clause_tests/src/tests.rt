@@ -4,7 +4,7 @@ use clauses::value::Value;
 use lines::book::number;
 use lines::given::given_line;
 use lines::line::{Line, Origin};
-use lines::resolving::{clash_count, resolve};
+use lines::resolving::{Resolvent, clash_count, resolve};
 use std::test::Fail;
 use valuations::judging::{bar, is_broken, is_critical};
 use valuations::valuation::{Full, Partial, Valuation};
@@ -18,22 +18,18 @@ const ALL: [Clause; 4] = [
 ];
 
 #[test]
-fn resolvents(rt: HostRuntime) -> Result<(), Fail> {
+fn resolvents(rt: HostRuntime) {
     assert_eq!(rt; clash_count(&ALL[0], &ALL[1]), 1);
     assert_eq!(rt; clash_count(&ALL[0], &ALL[3]), 2);
     assert!(rt; resolve(&ALL[0], &ALL[3]).is_none());
     assert!(rt; resolve(&ALL[0], &ALL[0]).is_none());
-    match resolve(&ALL[0], &ALL[1]) {
-        None => {
-            assert!(rt; false);
-            Ok(())
-        },
-        Some(found) => {
-            assert_eq!(rt; found.variable, 1);
-            assert_eq!(rt; found.clause, Clause { pos: 2, neg: 0 });
-            Ok(())
-        }
-    }
+    assert_eq!(rt;
+        resolve(&ALL[0], &ALL[1]),
+        Some(Resolvent {
+            variable: 1,
+            clause: Clause { pos: 2, neg: 0 },
+        })
+    );
 }
 
 #[test]

@@ -3,16 +3,16 @@ use Rattle.std.proofs.Common.{◌≡◌, ℕ, zero, suc, ◌+◌, ◌<◌, ◌�
 use mathlib.Core.Bool.{and-true, and-false, or-true, or-false}
 use lib.Dec.{eqb-zero-suc, eqb-suc-zero, eqb-suc-suc}
 use Rattle.std.proofs.lemmas.List.{length-map}
+use Rattle.std.proofs.lemmas.List.Folds.{list_all-map}
 use Rattle.std.proofs.lemmas.Bool.{false≢true, and_parts, and_from, eqb-true, eq-eqb, not-true, not_from_false, both_ways, cases_Bool, cases_lt}
 use Rattle.words.specs.Bits.{alike, later, keep}
-use Rattle.clauses.specs.declared.value.Value.{Value}
-use Rattle.clauses.specs.declared.value.Value.TheVariants.{True, False, Unset}
-use Rattle.clauses.specs.Tests.{any, all}
-use Rattle.clauses.specs.Values.{Values, is_true, is_false, contrary}
+use Rattle.std.specs.List.{list_any, list_all}
+use Rattle.clauses.specs.Values.{Values, is_true, is_false}
 use Rattle.clauses.specs.Literals.{same_literal, value_of, among, met, tautology, once, set_size}
 use Rattle.clauses.specs.Clauses.{Sign, sign, Signs, blank, absent, holds_plus, holds_minus, sign_at, holds, literals_from, literals, size, empty, clean, within, false_at, meets, broken, same_sign, same, inside, included, without, critical}
 use Rattle.words.proofs.Bits.{and_cross}
-use Rattle.clauses.proofs.Tests.{iff, any_ext, all_ext, none_any, any-map, all_map, any-keep, all_keep}
+use Rattle.clauses.proofs.Contrary.{true-contrary, false-contrary}
+use Rattle.clauses.proofs.Tests.{iff, any_ext, all_ext, none_any, any-map, any-keep, all_keep}
 
 -- ---- one literal
 
@@ -31,16 +31,6 @@ literal_swap l k = iff (same_literal l k) (same_literal k l) (turn l k) (turn k 
   where
     turn : (i j : ℤ) → same_literal i j ≡ true → same_literal j i ≡ true
     turn i j h = rw (literal_eq i j h) (literal_self j)
-
-contrary-true : (x : Value) → is_true (contrary x) ≡ is_false x
-contrary-true True = refl
-contrary-true False = refl
-contrary-true Unset = refl
-
-contrary-false : (x : Value) → is_false (contrary x) ≡ is_true x
-contrary-false True = refl
-contrary-false False = refl
-contrary-false Unset = refl
 
 -- ---- one place further
 
@@ -85,16 +75,16 @@ literals-further k (sign false true ∷ c) = ap (λ xs. negsuc (suc k) ∷ xs) (
 literals-further k (sign false false ∷ c) = literals-further (suc k) c
 
 any-literals : (t : ℤ → Bool) (p q : Bool) (c : Signs)
-    → any t (literals (sign p q ∷ c)) ≡ (((p && t (pos 1)) || (q && t (negsuc 0))) || any (λ l. t (further l)) (literals c))
+    → list_any t (literals (sign p q ∷ c)) ≡ (((p && t (pos 1)) || (q && t (negsuc 0))) || list_any (λ l. t (further l)) (literals c))
 any-literals t p q c =
     any-keep t p q (pos 1) (negsuc 0) (literals_from 1 c)
-    ∙ ap (λ b. ((p && t (pos 1)) || (q && t (negsuc 0))) || b) (ap (any t) (literals-further 0 c) ∙ any-map t further (literals c))
+    ∙ ap (λ b. ((p && t (pos 1)) || (q && t (negsuc 0))) || b) (ap (list_any t) (literals-further 0 c) ∙ any-map t further (literals c))
 
 all-literals : (t : ℤ → Bool) (p q : Bool) (c : Signs)
-    → all t (literals (sign p q ∷ c)) ≡ (((not p || t (pos 1)) && (not q || t (negsuc 0))) && all (λ l. t (further l)) (literals c))
+    → list_all t (literals (sign p q ∷ c)) ≡ (((not p || t (pos 1)) && (not q || t (negsuc 0))) && list_all (λ l. t (further l)) (literals c))
 all-literals t p q c =
     all_keep t p q (pos 1) (negsuc 0) (literals_from 1 c)
-    ∙ ap (λ b. ((not p || t (pos 1)) && (not q || t (negsuc 0))) && b) (ap (all t) (literals-further 0 c) ∙ all_map t further (literals c))
+    ∙ ap (λ b. ((not p || t (pos 1)) && (not q || t (negsuc 0))) && b) (ap (list_all t) (literals-further 0 c) ∙ list_all-map t further (literals c))
 
 -- ---- which it holds
 
@@ -107,7 +97,7 @@ among_first l e p q c =
 among-further : (l : ℤ) (p q : Bool) (c : Signs) → among (further l) (literals (sign p q ∷ c)) ≡ among l (literals c)
 among-further l p q c =
     any-literals (same_literal (further l)) p q c
-    ∙ ap₂ {C = Bool} (λ x y. ((p && x) || (q && y)) || any (λ k. same_literal (further l) (further k)) (literals c))
+    ∙ ap₂ {C = Bool} (λ x y. ((p && x) || (q && y)) || list_any (λ k. same_literal (further l) (further k)) (literals c))
     (literal_swap (further l) (pos 1) ∙ not-plus l)
     (literal_swap (further l) (negsuc 0) ∙ not-minus l)
     ∙ simp (and-false, same-further)
@@ -166,15 +156,15 @@ pub meets-literals : (m : Values) (c : Signs) → meets m c ≡ met m (literals 
 meets-literals m [] = refl
 meets-literals m (sign p q ∷ c) =
     ap₂ {C = Bool} (λ x y. ((p && is_true (m 0)) || (q && x)) || y)
-    (sym (contrary-true (m 0)))
+    (true-contrary (m 0))
     (meets-literals (later m) c ∙ any_ext (λ l. is_true (value_of (later m) l)) (λ l. is_true (value_of m (further l))) (λ l. ap is_true (sym (value_further m l))) (literals c))
     ∙ sym (any-literals (λ l. is_true (value_of m l)) p q c)
 
-pub broken-literals : (m : Values) (c : Signs) → broken m c ≡ all (λ l. is_false (value_of m l)) (literals c)
+pub broken-literals : (m : Values) (c : Signs) → broken m c ≡ list_all (λ l. is_false (value_of m l)) (literals c)
 broken-literals m [] = refl
 broken-literals m (sign p q ∷ c) =
     ap₂ {C = Bool} (λ x y. ((not p || is_false (m 0)) && (not q || x)) && y)
-    (sym (contrary-false (m 0)))
+    (false-contrary (m 0))
     (broken-literals (later m) c ∙ all_ext (λ l. is_false (value_of (later m) l)) (λ l. is_false (value_of m (further l))) (λ l. ap is_false (sym (value_further m l))) (literals c))
     ∙ sym (all-literals (λ l. is_false (value_of m l)) p q c)
 
@@ -185,39 +175,39 @@ spared m l k = same_literal k l || is_false (value_of m k)
 spared-further : (m : Values) (l k : ℤ) → spared (later m) l k ≡ spared m (further l) (further k)
 spared-further m l k = ap₂ {C = Bool} (λ x y. x || y) (sym (same-further k l)) (ap is_false (sym (value_further m k)))
 
-broken-further : (m : Values) (l : ℤ) (p q : Bool) (c : Signs) → broken (later m) (without l c) ≡ all (spared (later m) l) (literals c)
-    → (false_at (sign p q) (m 0) && broken (later m) (without l c)) ≡ all (spared m (further l)) (literals (sign p q ∷ c))
+broken-further : (m : Values) (l : ℤ) (p q : Bool) (c : Signs) → broken (later m) (without l c) ≡ list_all (spared (later m) l) (literals c)
+    → (false_at (sign p q) (m 0) && broken (later m) (without l c)) ≡ list_all (spared m (further l)) (literals (sign p q ∷ c))
 broken-further m l p q c e =
     ap₂ {C = Bool} (λ x y. ((not p || x) && (not q || y)) && broken (later m) (without l c))
     (ap (λ x. x || is_false (m 0)) (sym (not-plus l)))
-    (ap₂ {C = Bool} (λ x y. x || y) (sym (not-minus l)) (sym (contrary-false (m 0))))
+    (ap₂ {C = Bool} (λ x y. x || y) (sym (not-minus l)) (false-contrary (m 0)))
     ∙ ap (λ x. ((not p || spared m (further l) (pos 1)) && (not q || spared m (further l) (negsuc 0))) && x)
     (e ∙ all_ext (spared (later m) l) (λ k. spared m (further l) (further k)) (spared-further m l) (literals c))
     ∙ sym (all-literals (spared m (further l)) p q c)
 
 -- where the first variable is spared, the further ones are judged as they are
 broken-first : (m : Values) (l : ℤ) (c : Signs) → ((k : ℤ) → same_literal l (further k) ≡ false)
-    → broken (later m) c ≡ all (λ k. spared m l (further k)) (literals c)
+    → broken (later m) c ≡ list_all (λ k. spared m l (further k)) (literals c)
 broken-first m l c e =
     broken-literals (later m) c
     ∙ all_ext (λ k. is_false (value_of (later m) k)) (λ k. spared m l (further k))
     (λ k. ap₂ {C = Bool} (λ x y. x || y) (sym (literal_swap (further k) l ∙ e k)) (ap is_false (sym (value_further m k))))
     (literals c)
 
-broken-without : (m : Values) (l : ℤ) (c : Signs) → broken m (without l c) ≡ all (spared m l) (literals c)
+broken-without : (m : Values) (l : ℤ) (c : Signs) → broken m (without l c) ≡ list_all (spared m l) (literals c)
 broken-without m (pos zero) [] = refl
 broken-without m (pos (suc k)) [] = refl
 broken-without m (negsuc k) [] = refl
 broken-without m (pos zero) (sign p q ∷ c) = broken-further m (pos zero) p q c (broken-without (later m) (pos zero) c)
 broken-without m (pos (suc zero)) (sign p q ∷ c) =
-    ap₂ {C = Bool} (λ x y. x && y) (simp (or-true, contrary-false)) (broken-first m (pos 1) c not-plus) ∙ sym (all-literals (spared m (pos 1)) p q c)
+    ap₂ {C = Bool} (λ x y. x && y) (simp (or-true, false-contrary)) (broken-first m (pos 1) c not-plus) ∙ sym (all-literals (spared m (pos 1)) p q c)
 broken-without m (pos (suc (suc k))) (sign p q ∷ c) = broken-further m (pos (suc k)) p q c (broken-without (later m) (pos (suc k)) c)
 broken-without m (negsuc zero) (sign p q ∷ c) =
     ap₂ {C = Bool} (λ x y. x && y) (simp or-true) (broken-first m (negsuc 0) c not-minus) ∙ sym (all-literals (spared m (negsuc 0)) p q c)
 broken-without m (negsuc (suc k)) (sign p q ∷ c) = broken-further m (negsuc k) p q c (broken-without (later m) (negsuc k) c)
 
 pub critical-literals : (m : Values) (l : ℤ) (c : Signs)
-    → critical m l c ≡ ((among l (literals c) && is_true (value_of m l)) && all (λ k. same_literal k l || is_false (value_of m k)) (literals c))
+    → critical m l c ≡ ((among l (literals c) && is_true (value_of m l)) && list_all (λ k. same_literal k l || is_false (value_of m k)) (literals c))
 critical-literals m l c = ap₂ {C = Bool} (λ x y. (x && is_true (value_of m l)) && y) (holds-literals l c) (broken-without m l c)
 
 -- ---- both ways
@@ -227,10 +217,10 @@ neg_further (pos zero) s c = refl
 neg_further (pos (suc k)) s c = refl
 neg_further (negsuc k) s c = refl
 
-clean-holds : (c : Signs) → clean c ≡ not (any (λ l. holds (neg_ℤ l) c) (literals c))
+clean-holds : (c : Signs) → clean c ≡ not (list_any (λ l. holds (neg_ℤ l) c) (literals c))
 clean-holds [] = refl
 clean-holds (sign p q ∷ c) =
-    ap (λ x. not (p && q) && x) (clean-holds c) ∙ go p q (any (λ l. holds (neg_ℤ l) c) (literals c))
+    ap (λ x. not (p && q) && x) (clean-holds c) ∙ go p q (list_any (λ l. holds (neg_ℤ l) c) (literals c))
     ∙ ap (λ x. not (((p && q) || (q && p)) || x))
     (any_ext (λ l. holds (neg_ℤ l) c) (λ l. holds (neg_ℤ (further l)) (sign p q ∷ c)) (λ l. sym (neg_further l (sign p q) c)) (literals c))
     ∙ ap not (sym (any-literals (λ l. holds (neg_ℤ l) (sign p q ∷ c)) p q c))

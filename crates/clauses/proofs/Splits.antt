@@ -1,5 +1,5 @@
 -- The first literal of a clause by rising variable, and the others. Assumes nothing.
-use Rattle.std.proofs.Common.{◌≡◌, ℕ, zero, suc, ◌+◌, Bool, true, false, cond, ◌||◌, List, [], ◌∷◌, ℤ, pos, negsuc, neg_ℤ, Some, None, Option, sym, refl, ap, ◌∙◌, subst, ap₂, arith}
+use Rattle.std.proofs.Common.{◌≡◌, ℕ, zero, suc, ◌+◌, Bool, true, false, cond, ◌||◌, List, [], ◌∷◌, ℤ, pos, negsuc, neg_ℤ, Some, None, Option, sym, refl, ap, ◌∙◌, subst, arith}
 use lib.Bits.{bit_or}
 use Rattle.std.proofs.lemmas.Bool.{false≢true, true≢false}
 use Rattle.words.specs.Bits.{width, later, listed, keep, numbers, variables, first}
@@ -7,6 +7,7 @@ use Rattle.words.proofs.Bits.{bit-or}
 use Rattle.words.proofs.Variables.{variables_where}
 use Rattle.clauses.specs.declared.clause.Clause.{Clause}
 use Rattle.clauses.specs.Clauses.{Sign, sign, Signs, holds_plus, holds_minus, sign_at, holds, literals_from, literals, changed, no_plus, no_minus, without}
+use Rattle.clauses.specs.Splitting.{Splits}
 use Rattle.clauses.specs.Words.{signs}
 use Rattle.clauses.proofs.Words.{sign_of, signs-listed}
 
@@ -77,17 +78,13 @@ split_minus c v e h =
     subst (λ (x : ℕ). holds (pos x) c ≡ false → literals c ≡ neg_ℤ (pos x) ∷ literals (without (neg_ℤ (pos x)) c)) (sym at) (λ k. r.2.minus k ∙ ap (λ (j : ℕ). negsuc j ∷ literals (changed r.0 no_minus c)) start) h
 
 -- the same, of words and of literals as calls give them back
-pub first-plus : (c r : Clause) (v : ℕ) (l k : ℤ) → Some v ≡ first (variables (bit_or c.pos c.neg)) → k ≡ pos v → l ≡ pos v
-    → true ≡ holds k (signs c) → signs r ≡ without k (signs c) → literals (signs c) ≡ l ∷ literals (signs r)
-first-plus c r v l k e ek el h rest =
-    split_plus (signs c) v (sym (first-words c) ∙ sym e) (ap (λ (x : ℤ). holds x (signs c)) (sym ek) ∙ sym h)
-    ∙ ap₂ {C = List ℤ} ◌∷◌ (sym el) (ap (λ (x : ℤ). literals (without x (signs c))) (sym ek) ∙ ap literals (sym rest))
+pub split_none : (c : Clause) (r : Option (ℤ × Clause)) → None ≡ first (variables (bit_or c.pos c.neg)) → r ≡ None → Splits (literals (signs c)) r
+split_none c r e is = rw is (no_front 1 0 (signs c) (sym (first-words c) ∙ sym e))
 
-pub first-minus : (c r : Clause) (v : ℕ) (l k x : ℤ) → Some v ≡ first (variables (bit_or c.pos c.neg)) → x ≡ pos v → k ≡ neg_ℤ (pos v) → l ≡ neg_ℤ (pos v)
-    → false ≡ holds x (signs c) → signs r ≡ without k (signs c) → literals (signs c) ≡ l ∷ literals (signs r)
-first-minus c r v l k x e ex ek el h rest =
-    split_minus (signs c) v (sym (first-words c) ∙ sym e) (ap (λ (y : ℤ). holds y (signs c)) (sym ex) ∙ sym h)
-    ∙ ap₂ {C = List ℤ} ◌∷◌ (sym el) (ap (λ (y : ℤ). literals (without y (signs c))) (sym ek) ∙ ap literals (sym rest))
-
-pub first-none : (c : Clause) → None ≡ first (variables (bit_or c.pos c.neg)) → literals (signs c) ≡ []
-first-none c e = no_front 1 0 (signs c) (sym (first-words c) ∙ sym e)
+pub split_some : (c r : Clause) (v : ℕ) (k : ℤ) (b : Bool) → Some v ≡ first (variables (bit_or c.pos c.neg)) → b ≡ holds (pos v) (signs c)
+    → k ≡ cond b (pos v) (neg_ℤ (pos v)) → signs r ≡ without k (signs c) → literals (signs c) ≡ k ∷ literals (signs r)
+split_some c r v k b e h is rest = go b h is ∙ ap (λ (s : Signs). k ∷ literals s) (sym rest)
+  where
+    go : (b : Bool) → b ≡ holds (pos v) (signs c) → k ≡ cond b (pos v) (neg_ℤ (pos v)) → literals (signs c) ≡ k ∷ literals (without k (signs c))
+    go true h is = rw is (split_plus (signs c) v (sym (first-words c) ∙ sym e) (sym h))
+    go false h is = rw is (split_minus (signs c) v (sym (first-words c) ∙ sym e) (sym h))

@@ -4,17 +4,19 @@ use mathlib.Core.Bool.{and-true, or-false}
 use lib.Bits.{bit_and, bit_or}
 use lib.Dec.{eqb-suc-zero, eqb-suc-suc}
 use lib.Signed.{lt_z}
+use Rattle.std.proofs.lemmas.Int.{to_z-of_z}
 use Rattle.std.proofs.lemmas.Bool.{false≢true, and_right, cases_lt, lt-ltb}
 use Rattle.std.proofs.lemmas.Bool.Decides.{nat_tests}
-use Rattle.words.specs.Bits.{width, bit, BitsWhere, one_to, listed, variables, in_word}
-use Rattle.words.proofs.Bits.{bit-without, in_word-bit, bit-or, bit-zero, bit_past}
+use Rattle.words.specs.Bits.{alike, width, bit, BitsWhere, one_to, listed, variables, in_word}
+use Rattle.words.proofs.Bits.{bit-without, every-and, equal_bits, in_word-bit, bit-or, bit-zero, bit_past}
 use Rattle.words.proofs.Variables.{listed_same, variables_where}
 use Rattle.clauses.specs.declared.clause.Clause.{Clause}
 use Rattle.clauses.specs.Literals.{names, same_literal, among}
 use Rattle.clauses.specs.Clauses.{Sign, sign, Signs, blank, holds_plus, holds_minus, sign_at, holds, size, same, union, no_plus, no_minus, without}
 use Rattle.clauses.specs.Sets.{SetOf}
 use Rattle.clauses.specs.Words.{signs}
-use Rattle.clauses.proofs.Listed.{sign-listed, blank_past, union-listed, changed-listed, size-listed}
+use Rattle.clauses.proofs.Literals.{literal_eq}
+use Rattle.clauses.proofs.Listed.{same-listed, sign-listed, blank_past, union-listed, changed-listed, size-listed}
 
 abbrev pub sign_of : Clause → ℕ → Sign
 sign_of c k = sign (bit k c.pos) (bit k c.neg)
@@ -34,32 +36,26 @@ sign_past c k h = ap (λ (s : Signs). sign_at s k) (signs-listed c) ∙ blank_pa
 
 -- ---- both, one alone, and what is taken off
 
-pub signs-union : (a b : Clause) → signs (record { pos = bit_or a.pos b.pos; neg = bit_or a.neg b.neg }) ≡ union (signs a) (signs b)
-signs-union a b =
+pub union_words : (a b : Clause) → signs (record { pos = bit_or a.pos b.pos; neg = bit_or a.neg b.neg }) ≡ union (signs a) (signs b)
+union_words a b =
     signs_by _ _ (λ k _. ap₂ sign (bit-or k a.pos b.pos) (bit-or k a.neg b.neg))
     ∙ sym (union-listed width (sign_of a) (sign_of b)) ∙ sym (ap₂ union (signs-listed a) (signs-listed b))
 
-same_names : (n : ℕ) (x l : ℤ) → same_literal x l ≡ true → names n x ≡ names n l
-same_names n (pos i) (pos j) e = grind (arith, nat_tests)
-same_names n (pos i) (negsuc j) e = absurd (false≢true e)
-same_names n (negsuc i) (pos j) e = absurd (false≢true e)
-same_names n (negsuc i) (negsuc j) e = grind (arith, nat_tests)
-
-alone : (x l : ℤ) (b : Bool) → names width x ≡ true → names width l ≡ b → among x (cond b (l ∷ []) []) ≡ same_literal x l
-alone x l true h e = or-false (same_literal x l)
-alone x l false h e = go (same_literal x l) refl
+-- of the numbers that name a variable, the clause of one literal holds that one alone
+only_one : (x l : ℤ) → among x (cond (names width l) (l ∷ []) []) ≡ (names width x && same_literal x l)
+only_one x l = go (same_literal x l) refl
   where
-    go : (s : Bool) → same_literal x l ≡ s → false ≡ s
-    go true same = absurd (false≢true (sym e ∙ sym (same_names width x l same) ∙ h))
-    go false same = refl
+    itself : (n : Bool) → among l (cond n (l ∷ []) []) ≡ (n && same_literal l l)
+    itself true = or-false (same_literal l l)
+    itself false = refl
 
-not_alone : (x l : ℤ) (b : Bool) → names width x ≡ false → names width l ≡ b → among x (cond b (l ∷ []) []) ≡ false
-not_alone x l false h e = refl
-not_alone x l true h e = or-false (same_literal x l) ∙ go (same_literal x l) refl
-  where
-    go : (s : Bool) → same_literal x l ≡ s → s ≡ false
-    go true same = absurd (false≢true (sym h ∙ same_names width x l same ∙ e))
-    go false same = refl
+    other : (n : Bool) → same_literal x l ≡ false → among x (cond n (l ∷ []) []) ≡ false
+    other true e = or-false (same_literal x l) ∙ e
+    other false e = refl
+
+    go : (s : Bool) → same_literal x l ≡ s → among x (cond (names width l) (l ∷ []) []) ≡ (names width x && same_literal x l)
+    go true e = rw (literal_eq x l e) (itself (names width l))
+    go false e = other (names width l) e ∙ sym (and_right (names width x) (same_literal x l) e)
 
 -- the sign of a clause of one literal
 abbrev pub lone : ℤ → ℕ → Sign
@@ -73,22 +69,25 @@ unit_signs u l set k h =
     let e = sign-here u k h in
     let named : one_to width (suc k) ≡ true = grind (arith, nat_tests) in
     ap₂ sign
-    (sym (ap holds_plus e) ∙ set (pos (suc k)) ∙ alone (pos (suc k)) l (names width l) named refl)
-    (sym (ap holds_minus e) ∙ set (negsuc k) ∙ alone (negsuc k) l (names width l) named refl)
+    (sym (ap holds_plus e) ∙ set (pos (suc k)) ∙ only_one (pos (suc k)) l ∙ rw named refl)
+    (sym (ap holds_minus e) ∙ set (negsuc k) ∙ only_one (negsuc k) l ∙ rw named refl)
 
 pub signs_unit : (u : Clause) (l : ℤ) → ((k : ℕ) → k < width → sign_of u k ≡ lone l k) → Unit l u
 signs_unit u l at x = go x
   where
+    one : {b : Bool} (x : ℤ) → names width x ≡ b → (names width x && same_literal x l) ≡ (b && same_literal x l)
+    one x e = ap (λ (b : Bool). b && same_literal x l) e
+
     here : (k : ℕ) (x : ℤ) (part : Sign → Bool) → nat_abs x ≡ suc k → holds x (signs u) ≡ part (sign_at (signs u) k) → part blank ≡ false
         → part (lone l k) ≡ same_literal x l → holds x (signs u) ≡ among x (cond (names width l) (l ∷ []) [])
     here k x part n e f g =
         ⊎_elim
-        (λ h. e ∙ ap part (sign-here u k h ∙ at k h) ∙ g ∙ sym (alone x l (names width l) (ap (one_to width) n ∙ (let y : one_to width (suc k) ≡ true = grind (arith, nat_tests) in y)) refl))
-        (λ h. e ∙ ap part (sign_past u k h) ∙ f ∙ sym (not_alone x l (names width l) (ap (one_to width) n ∙ (let y : one_to width (suc k) ≡ false = grind (arith, nat_tests) in y)) refl))
+        (λ h. e ∙ ap part (sign-here u k h ∙ at k h) ∙ g ∙ sym (only_one x l ∙ one x (ap (one_to width) n ∙ (let y : one_to width (suc k) ≡ true = grind (arith, nat_tests) in y))))
+        (λ h. e ∙ ap part (sign_past u k h) ∙ f ∙ sym (only_one x l ∙ one x (ap (one_to width) n ∙ (let y : one_to width (suc k) ≡ false = grind (arith, nat_tests) in y))))
         (cases_lt k width)
 
     go : (x : ℤ) → holds x (signs u) ≡ among x (cond (names width l) (l ∷ []) [])
-    go (pos zero) = sym (not_alone (pos zero) l (names width l) refl refl)
+    go (pos zero) = sym (only_one (pos zero) l)
     go (pos (suc k)) = here k (pos (suc k)) holds_plus refl refl refl refl
     go (negsuc k) = here k (negsuc k) holds_minus refl refl refl refl
 
@@ -102,6 +101,8 @@ unit_minus (pos zero) one down at =
     signs_unit (record { pos = 0; neg = one }) (pos zero) (λ k h. ap₂ sign (bit-zero k ∙ sym (eqb-suc-zero k)) (at k h ∙ eqb-suc-zero k))
 unit_minus (pos (suc j)) one down at = absurd (false≢true (sym down ∙ lt-ltb 0 (suc j) (omega arith)))
 unit_minus (negsuc j) one down at = signs_unit (record { pos = 0; neg = one }) (negsuc j) (λ k h. ap₂ sign (bit-zero k) (at k h ∙ eqb-suc-suc k j))
+
+pub ruleset unit_words = (unit_plus, unit_minus, to_z-of_z)
 
 plus_off : (b : Bool) (s : Sign) → cond b (no_plus s) s ≡ sign (holds_plus s && not b) (holds_minus s && true)
 plus_off true (sign p q) = ap₂ sign (sym (and_right p false refl)) (sym (and-true q))
@@ -129,11 +130,13 @@ without-listed w (negsuc j) f = changed-listed w j no_minus f ∙ listed_same w 
     off : (s : Sign) (k : ℕ) → cond (eqb k j) (no_minus s) s ≡ less s (lone (negsuc j) k)
     off (sign p q) k = minus_off (eqb k j) (sign p q)
 
-pub signs-without : (c u : Clause) (l : ℤ) → u.pos < 2 ^ width → u.neg < 2 ^ width → Unit l u
+pub without_words : (c u : Clause) (l : ℤ) → u.pos < 2 ^ width → u.neg < 2 ^ width → Unit l u
     → signs (record { pos = bit_and c.pos (2 ^ width - 1 - u.pos); neg = bit_and c.neg (2 ^ width - 1 - u.neg) }) ≡ without l (signs c)
-signs-without c u l small small' set =
+without_words c u l small small' set =
     signs_by _ _ (λ k h. ap₂ sign (bit-without k c.pos u.pos h small) (bit-without k c.neg u.neg h small') ∙ ap (less (sign_of c k)) (unit_signs u l set k h))
     ∙ sym (ap (without l) (signs-listed c) ∙ without-listed width l (sign_of c))
+
+pub ruleset without_rules = (without_words, to_z-of_z)
 
 -- ---- what it holds
 
@@ -155,9 +158,19 @@ has-minus c (pos zero) small down = refl
 has-minus c (pos (suc k)) small down = absurd (false≢true (sym down ∙ lt-ltb 0 (suc k) (omega arith)))
 has-minus c (negsuc k) small down = in_word-bit k c.neg small ∙ sym (holds_minus-bit c k small)
 
+pub ruleset holds_words = (has-plus, has-minus, to_z-of_z)
+
 -- ---- its length
 
-pub size-words : (c : Clause) → length (variables c.pos) + length (variables c.neg) ≡ size (signs c)
-size-words c =
-    ap₂ ◌+◌ (ap length (variables_where (λ k. bit k c.pos) c.pos (λ k _. refl))) (ap length (variables_where (λ k. bit k c.neg) c.neg (λ k _. refl)))
-    ∙ sym (ap size (signs-listed c) ∙ size-listed width 1 0 (sign_of c))
+pub length_words : (c : Clause) → size (signs c) ≡ length (variables c.pos) + length (variables c.neg)
+length_words c =
+    ap size (signs-listed c) ∙ size-listed width 1 0 (sign_of c)
+    ∙ sym (ap₂ ◌+◌ (ap length (variables_where (λ k. bit k c.pos) c.pos (λ k _. refl))) (ap length (variables_where (λ k. bit k c.neg) c.neg (λ k _. refl))))
+
+-- ---- the same clause
+
+pub same_words : (a b : Clause) → a.pos < 2 ^ width → b.pos < 2 ^ width → a.neg < 2 ^ width → b.neg < 2 ^ width
+    → (eqb a.pos b.pos && eqb a.neg b.neg) ≡ same (signs a) (signs b)
+same_words a b ap bp an bn =
+    ap₂ ◌&&◌ (equal_bits a.pos b.pos ap bp) (equal_bits a.neg b.neg an bn)
+    ∙ sym (every-and width (λ k. alike (bit k a.pos) (bit k b.pos)) (λ k. alike (bit k a.neg) (bit k b.neg))) ∙ sym (same-listed width (sign_of a) (sign_of b)) ∙ sym (ap₂ same (signs-listed a) (signs-listed b))

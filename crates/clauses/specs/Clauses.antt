@@ -3,7 +3,7 @@
 use Rattle.std.specs.Prelude.{ℕ, zero, suc, Bool, true, false, cond, not, ◌&&◌, ◌||◌, List, [], ◌∷◌, length, ℤ, pos, negsuc, neg_ℤ, nat_lt}
 use Rattle.words.specs.Bits.{width, alike, later, keep, listed}
 use Rattle.clauses.specs.declared.value.Value.{Value}
-use Rattle.clauses.specs.Tests.{any, all}
+use Rattle.std.specs.List.{list_any, list_all}
 use Rattle.clauses.specs.Values.{Values, is_true, is_false}
 use Rattle.clauses.specs.Literals.{value_of}
 
@@ -57,11 +57,11 @@ abbrev pub size : Signs → ℕ
 size c = length (literals c)
 
 abbrev pub empty : Signs → Bool
-empty c = all absent c
+empty c = list_all absent c
 
 -- it holds no variable both ways
 abbrev pub clean : Signs → Bool
-clean c = all one_way c
+clean c = list_all one_way c
 
 -- no variable above n
 abbrev pub within : ℕ → Signs → Bool
@@ -101,7 +101,7 @@ same (s ∷ c) [] = empty (s ∷ c)
 same (s ∷ c) (t ∷ d) = same_sign s t && same c d
 
 abbrev pub has : Signs → List Signs → Bool
-has c cs = any (same c) cs
+has c cs = list_any (same c) cs
 
 abbrev pub inside : Sign → Sign → Bool
 inside (sign p q) (sign r s) = (not p || r) && (not q || s)

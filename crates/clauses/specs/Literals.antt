@@ -4,7 +4,7 @@ use Rattle.std.specs.Prelude.{ℕ, zero, suc, ◌+◌, Bool, true, false, not, L
 use Rattle.words.specs.Bits.{one_to}
 use Rattle.clauses.specs.declared.value.Value.{Value}
 use Rattle.clauses.specs.declared.value.Value.TheVariants.{Unset}
-use Rattle.clauses.specs.Tests.{any}
+use Rattle.std.specs.List.{list_any}
 use Rattle.clauses.specs.Values.{Values, is_true, contrary}
 
 -- A literal is a signed number: v says that variable v is true, -v that it is
@@ -30,15 +30,15 @@ value_of m (negsuc k) = contrary (m k)
 
 -- the literal is one of these
 abbrev pub among : ℤ → List ℤ → Bool
-among l xs = any (same_literal l) xs
+among l xs = list_any (same_literal l) xs
 
 -- a valuation, as an assignment, meets a clause when some literal is then true
 abbrev pub met : Values → List ℤ → Bool
-met m xs = any (λ l. is_true (value_of m l)) xs
+met m xs = list_any (λ l. is_true (value_of m l)) xs
 
 -- it holds some v and -v
 abbrev pub tautology : List ℤ → Bool
-tautology xs = any (λ l. among (neg_ℤ l) xs) xs
+tautology xs = list_any (λ l. among (neg_ℤ l) xs) xs
 
 abbrev pub once : Bool → ℕ
 once true = 1

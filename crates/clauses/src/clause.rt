@@ -20,6 +20,7 @@ pub struct Clause {
 impl Clause {
     // The clause of this literal alone; the empty one where the number names
     // none of the variables 1 to 64.
+    #[tactic(auto, using(crate::proofs::Words::unit_words))]
     pub fn unit(literal: i32) -> Clause
         ensures literals { SetOf (if names width literal then literal ∷ [] else []) (signs result) }
     {
@@ -32,6 +33,7 @@ impl Clause {
     }
 
     // Whether it holds the literal.
+    #[tactic(auto, using(crate::proofs::Words::holds_words))]
     pub fn holds(&self, literal: i32) -> bool
         ensures value { result ≡ holds literal (signs self.now) }
     {
@@ -44,6 +46,7 @@ impl Clause {
     }
 
     // All its literals but this one.
+    #[tactic(auto, using(crate::proofs::Words::without_rules))]
     pub fn without(&self, literal: i32) -> Clause
         ensures value { signs result ≡ but literal (signs self.now) }
     {
@@ -55,6 +58,7 @@ impl Clause {
     }
 
     // The literals of both.
+    #[tactic(auto, using(crate::proofs::Words::union_words))]
     pub fn union(&self, other: &Clause) -> Clause
         ensures value { signs result ≡ joined (signs self.now) (signs other.now) }
     {
@@ -65,20 +69,21 @@ impl Clause {
     }
 
     // How many literals it holds.
+    #[tactic(auto, using(crate::proofs::Words::length_words))]
     pub fn length(&self) -> u32
         ensures value { result ≡ size (signs self.now) }
     {
         sets::count(self.pos) + sets::count(self.neg)
     }
 
-    // Its first literal by rising variable, and the clause of the others.
+    // Its first literal by rising variable, and the clause of the others. The
+    // cast is exact, since a variable is at most 64; a `try_from` would add a
+    // branch that is never taken.
     pub fn split_first(&self) -> Option<(i32, Clause)>
         ensures splits { Splits (literals (signs self.now)) result }
     {
         let v = sets::lowest(self.pos | self.neg)? as i32;
-        if self.holds(v) {
-            return Some((v, self.without(v)));
-        }
-        Some((-v, self.without(-v)))
+        let literal = if self.holds(v) { v } else { -v };
+        Some((literal, self.without(literal)))
     }
 }

@@ -8,10 +8,7 @@ pub fn variable(literal: i32, n: u32) -> Option<u32>
     ensures value { result ≡ (if names n literal then Some (unsigned_abs literal) else None) }
 {
     let size = literal.unsigned_abs();
-    if size == 0 || size > n {
-        return None;
-    }
-    Some(size)
+    (1..=n).contains(&size).then_some(size)
 }
 
 // The literal that says the contrary. The lowest 32-bit number has none.

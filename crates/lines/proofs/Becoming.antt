@@ -1,12 +1,12 @@
 -- What the set of a customer's literals becomes. Assumes nothing.
-use Rattle.std.proofs.Common.{◌≡◌, ℕ, suc, ◌^◌, ◌<◌, Bool, true, false, not, List, ℤ, pos, negsuc, Some, None, Ok, sym, refl, ap, ◌∙◌, subst, ap₂}
+use Rattle.std.proofs.Common.{◌≡◌, ℕ, suc, ◌^◌, ◌<◌, Bool, true, false, not, List, ℤ, pos, negsuc, Option, eqb, Ok, sym, refl, ap, ◌∙◌, subst, ap₂}
+use Rattle.std.specs.Bool.{then_some}
 use lib.Bits.{bit_and}
-use Rattle.std.proofs.lemmas.Bool.{eq-eqb, ne_eqb}
 use Rattle.words.specs.Bits.{width}
 use Rattle.clauses.specs.declared.clause.Clause.{Clause}
 use Rattle.lines.specs.declared.line.Line.{Line}
 use Rattle.clauses.specs.Literals.{tautology}
-use Rattle.clauses.specs.Clauses.{sign, holds_plus, holds_minus}
+use Rattle.clauses.specs.Clauses.{clean, sign, holds_plus, holds_minus}
 use Rattle.clauses.specs.Sets.{set_of, SetOf}
 use Rattle.lines.specs.Given.{Gathers, Becomes}
 use Rattle.lines.specs.Lines.{given_line}
@@ -24,26 +24,24 @@ flip : (x y : Bool) → x ≡ not y → y ≡ not x
 flip x true e = ap not (sym e)
 flip x false e = ap not (sym e)
 
-module _ (n : ℕ) (xs : List ℤ) (c : Clause) (gathered : Gathers n xs (Ok c)) (small : c.pos < 2 ^ width) where
-  pub becomes_none : (bit_and c.pos c.neg ≡ 0 → ⊥) → Becomes n xs (Ok None)
-  becomes_none both =
-      let clean = given-clean n xs (signs c) gathered.0 gathered.1 in
-      let yes = flip _ (tautology xs) (sym (ne_eqb (bit_and c.pos c.neg) 0 both) ∙ clean-words c small ∙ clean) in
-      (gathered.0, yes, tautology-met n xs gathered.0 yes)
-
-  pub becomes_line : bit_and c.pos c.neg ≡ 0 → (l : Line) → l ≡ given_line c → Becomes n xs (Ok (Some l))
-  becomes_line none l e =
-      let clean = given-clean n xs (signs c) gathered.0 gathered.1 in
-      let is = sym (clean-words c small) ∙ eq-eqb (bit_and c.pos c.neg) 0 none in
-      let no = flip _ (tautology xs) (sym is ∙ clean) in
-      subst (λ (x : Line). Becomes n xs (Ok (Some x))) (sym e) (
-        gathered.0,
-        no,
-        refl,
-        set_signs xs c gathered.1,
-        gathered.1,
-        given-meets n xs (signs c) gathered.0 gathered.1,
-        given-size n xs (signs c) gathered.0 gathered.1,
-        is,
-        given-within n xs (signs c) gathered.0 gathered.1,
-      )
+pub becomes : (n : ℕ) (xs : List ℤ) (c : Clause) (l : Line) (r : Option Line) → r ≡ then_some (eqb (bit_and c.pos c.neg) 0) l → l ≡ given_line c → Gathers n xs (Ok c)
+    → c.pos < 2 ^ width → Becomes n xs (Ok r)
+becomes n xs c l r is made gathered small = subst (λ (o : Option Line). Becomes n xs (Ok o)) (sym (is ∙ ap (λ (b : Bool). then_some b l) (clean-words c small))) (go (clean (signs c)) refl)
+  where
+    go : (b : Bool) → clean (signs c) ≡ b → Becomes n xs (Ok (then_some b l))
+    go false e =
+        let yes = flip _ (tautology xs) (sym e ∙ given-clean n xs (signs c) gathered.0 gathered.1) in
+        (gathered.0, yes, tautology-met n xs gathered.0 yes)
+    go true e =
+        let no = flip _ (tautology xs) (sym e ∙ given-clean n xs (signs c) gathered.0 gathered.1) in
+        rw made (
+          gathered.0,
+          no,
+          refl,
+          set_signs xs c gathered.1,
+          gathered.1,
+          given-meets n xs (signs c) gathered.0 gathered.1,
+          given-size n xs (signs c) gathered.0 gathered.1,
+          e,
+          given-within n xs (signs c) gathered.0 gathered.1,
+        )

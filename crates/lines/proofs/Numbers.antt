@@ -3,7 +3,7 @@
 use Rattle.std.proofs.Common.{◌≡◌, ℕ, zero, suc, ◌+◌, ◌<◌, ◌≤◌, Bool, true, false, not, ◌||◌, ltb, leb, ◌⊎◌, List, [], ◌∷◌, length, ℤ, pos, negsuc, neg_ℤ, nat_abs, sym, refl, ap, ◌∙◌, inl, inr, ⊎_elim, arith}
 use Rattle.std.proofs.lemmas.Bool.{false≢true, and_parts, or_cases, or_from, or_left, or_right, leb-true}
 use Rattle.words.specs.Bits.{keep}
-use Rattle.clauses.specs.Tests.{any, all}
+use Rattle.std.specs.List.{list_any, list_all}
 use Rattle.clauses.specs.Values.{Values, is_true, contrary, assigned}
 use Rattle.clauses.specs.Literals.{names, same_literal, value_of, among, met, tautology, once, set_size}
 use Rattle.clauses.specs.Clauses.{Signs, literals, size, clean, within, meets}
@@ -14,33 +14,33 @@ use Rattle.clauses.proofs.Literals.{literal_eq, literal_self, literal_swap, hold
 -- ---- lists of the same members
 
 -- a member that passes
-any_at : (t : ℤ → Bool) (xs : List ℤ) → any t xs ≡ true → (l : ℤ) × (among l xs ≡ true) × (t l ≡ true)
+any_at : (t : ℤ → Bool) (xs : List ℤ) → list_any t xs ≡ true → (l : ℤ) × (among l xs ≡ true) × (t l ≡ true)
 any_at t [] h = absurd (false≢true h)
 any_at t (x ∷ xs) h =
     ⊎_elim (λ e. (x, or_left (same_literal x x) (among x xs) (literal_self x), e))
     (λ e. let w = any_at t xs e in (w.0, or_right (same_literal w.0 x) (among w.0 xs) w.1, w.2))
-    (or_cases (t x) (any t xs) h)
+    (or_cases (t x) (list_any t xs) h)
 
-any-among : (t : ℤ → Bool) (xs : List ℤ) (l : ℤ) → among l xs ≡ true → t l ≡ true → any t xs ≡ true
+any-among : (t : ℤ → Bool) (xs : List ℤ) (l : ℤ) → among l xs ≡ true → t l ≡ true → list_any t xs ≡ true
 any-among t [] l h e = absurd (false≢true h)
 any-among t (x ∷ xs) l h e =
-    ⊎_elim (λ k. or_left (t x) (any t xs) (ap t (sym (literal_eq l x k)) ∙ e))
-    (λ k. or_right (t x) (any t xs) (any-among t xs l k e))
+    ⊎_elim (λ k. or_left (t x) (list_any t xs) (ap t (sym (literal_eq l x k)) ∙ e))
+    (λ k. or_right (t x) (list_any t xs) (any-among t xs l k e))
     (or_cases (same_literal l x) (among l xs) h)
 
-all_among : (t : ℤ → Bool) (xs : List ℤ) (l : ℤ) → all t xs ≡ true → among l xs ≡ true → t l ≡ true
+all_among : (t : ℤ → Bool) (xs : List ℤ) (l : ℤ) → list_all t xs ≡ true → among l xs ≡ true → t l ≡ true
 all_among t [] l h k = absurd (false≢true k)
 all_among t (x ∷ xs) l h k =
-    let p = and_parts (t x) (all t xs) h in
+    let p = and_parts (t x) (list_all t xs) h in
     ⊎_elim (λ e. ap t (literal_eq l x e) ∙ p.0) (λ e. all_among t xs l p.1 e) (or_cases (same_literal l x) (among l xs) k)
 
 abbrev Alike : List ℤ → List ℤ → Type 0
 Alike xs ys = (l : ℤ) → among l xs ≡ among l ys
 
-any-alike : (t : ℤ → Bool) (xs ys : List ℤ) → Alike xs ys → any t xs ≡ any t ys
-any-alike t xs ys e = iff (any t xs) (any t ys) (go xs ys e) (go ys xs (λ l. sym (e l)))
+any-alike : (t : ℤ → Bool) (xs ys : List ℤ) → Alike xs ys → list_any t xs ≡ list_any t ys
+any-alike t xs ys e = iff (list_any t xs) (list_any t ys) (go xs ys e) (go ys xs (λ l. sym (e l)))
   where
-    go : (us vs : List ℤ) → Alike us vs → any t us ≡ true → any t vs ≡ true
+    go : (us vs : List ℤ) → Alike us vs → list_any t us ≡ true → list_any t vs ≡ true
     go us vs f h = let w = any_at t us h in any-among t vs w.0 (sym (f w.0) ∙ w.1) w.2
 
 tautology-alike : (xs ys : List ℤ) → Alike xs ys → tautology xs ≡ tautology ys
@@ -107,19 +107,19 @@ set_size-alike (x ∷ xs) ys e = go (set_size-alike xs) (among x xs) refl
 alike-literals : (xs : List ℤ) (c : Signs) → SetOf xs c → Alike (literals c) xs
 alike-literals xs c e l = sym (holds-literals l c) ∙ e l
 
-pub given-meets : (n : ℕ) (xs : List ℤ) (c : Signs) → all (names n) xs ≡ true → SetOf xs c → (m : Values) → meets m c ≡ met m xs
+pub given-meets : (n : ℕ) (xs : List ℤ) (c : Signs) → list_all (names n) xs ≡ true → SetOf xs c → (m : Values) → meets m c ≡ met m xs
 given-meets n xs c h e m = meets-literals m c ∙ any-alike (λ l. is_true (value_of m l)) (literals c) xs (alike-literals xs c e)
 
-pub given-size : (n : ℕ) (xs : List ℤ) (c : Signs) → all (names n) xs ≡ true → SetOf xs c → size c ≡ set_size xs
+pub given-size : (n : ℕ) (xs : List ℤ) (c : Signs) → list_all (names n) xs ≡ true → SetOf xs c → size c ≡ set_size xs
 given-size n xs c h e = size-literals c ∙ set_size-alike (literals c) xs (alike-literals xs c e)
 
-pub given-clean : (n : ℕ) (xs : List ℤ) (c : Signs) → all (names n) xs ≡ true → SetOf xs c → clean c ≡ not (tautology xs)
+pub given-clean : (n : ℕ) (xs : List ℤ) (c : Signs) → list_all (names n) xs ≡ true → SetOf xs c → clean c ≡ not (tautology xs)
 given-clean n xs c h e = clean-literals c ∙ ap not (tautology-alike (literals c) xs (alike-literals xs c e))
 
 names_below : (n : ℕ) (l : ℤ) → names n l ≡ true → nat_abs l ≤ n
 names_below n l h = leb-true (nat_abs l) n (and_parts (ltb 0 (nat_abs l)) (leb (nat_abs l) n) h).1
 
-pub given-within : (n : ℕ) (xs : List ℤ) (c : Signs) → all (names n) xs ≡ true → SetOf xs c → within n c ≡ true
+pub given-within : (n : ℕ) (xs : List ℤ) (c : Signs) → list_all (names n) xs ≡ true → SetOf xs c → within n c ≡ true
 given-within n xs c h e = holds-within n c (λ l k. names_below n l (all_among (names n) xs l h (sym (e l) ∙ k)))
 
 -- ---- tautologies
@@ -136,7 +136,7 @@ either_true n a (pos zero) e h = absurd (false≢true h)
 either_true n a (pos (suc k)) e h = assigned-either a k (omega (arith, names_below n (pos (suc k)) h))
 either_true n a (negsuc k) e h = ⊎_elim inr inl (assigned-either a k (omega (arith, names_below n (negsuc k) h)))
 
-pub tautology-met : (n : ℕ) (xs : List ℤ) → all (names n) xs ≡ true → tautology xs ≡ true → (a : List Bool) → n ≤ length a → met (assigned a) xs ≡ true
+pub tautology-met : (n : ℕ) (xs : List ℤ) → list_all (names n) xs ≡ true → tautology xs ≡ true → (a : List Bool) → n ≤ length a → met (assigned a) xs ≡ true
 tautology-met n xs h t a e =
     let w = any_at (λ l. among (neg_ℤ l) xs) xs t in
     let found = any-among (λ l. is_true (value_of (assigned a) l)) xs in

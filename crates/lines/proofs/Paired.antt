@@ -1,16 +1,16 @@
--- Two clauses as words: where they clash, what is left of both, and whether
--- they are the same; and whether one holds a variable both ways. Assumes nothing.
+-- Two clauses as words: where they clash, and what is left of both; and
+-- whether one holds a variable both ways. Assumes nothing.
 use Rattle.std.proofs.Common.{◌≡◌, ℕ, zero, suc, ◌-◌, ◌^◌, ◌<◌, Bool, true, not, ◌&&◌, ◌||◌, eqb, pos, neg_ℤ, sym, ap, ◌∙◌, ap₂, arith}
 use mathlib.Core.Bool.{and-true}
 use lib.Bits.{bit_and, bit_or, and_le_l}
 use lib.Dec.{eqb-suc-zero, eqb-suc-suc}
-use Rattle.words.specs.Bits.{alike, width, bit, BitsWhere, listed, variables}
-use Rattle.words.proofs.Bits.{bit-without, every-and, equal_bits, bit-and, bit-or, zero_bits, every-same}
+use Rattle.words.specs.Bits.{width, bit, BitsWhere, listed, variables}
+use Rattle.words.proofs.Bits.{bit-without, bit-and, bit-or, zero_bits, every-same}
 use Rattle.words.proofs.Variables.{variables_where}
 use Rattle.clauses.specs.declared.clause.Clause.{Clause}
-use Rattle.clauses.specs.Clauses.{Sign, sign, Signs, clean, same, opposed, clashes, either, union, without, resolvent}
+use Rattle.clauses.specs.Clauses.{Sign, sign, Signs, clean, opposed, clashes, either, union, without, resolvent}
 use Rattle.clauses.specs.Words.{signs}
-use Rattle.clauses.proofs.Listed.{same-listed, union-listed, clashes-listed, clean-listed}
+use Rattle.clauses.proofs.Listed.{union-listed, clashes-listed, clean-listed}
 use Rattle.clauses.proofs.Words.{sign_of, signs-listed, signs_by, less, lone, without-listed}
 
 pub clash_words : (a b : Clause) → variables (bit_or (bit_and a.pos b.neg) (bit_and a.neg b.pos)) ≡ clashes (signs a) (signs b)
@@ -24,14 +24,6 @@ clean-words c small =
     zero_bits (bit_and c.pos c.neg) (omega (arith, and_le_l c.pos c.neg))
     ∙ every-same width _ _ (λ k _. ap not (bit-and k c.pos c.neg))
     ∙ sym (ap clean (signs-listed c) ∙ clean-listed width (sign_of c))
-
--- ---- the same clause
-
-pub same-words : (a b : Clause) → a.pos < 2 ^ width → b.pos < 2 ^ width → a.neg < 2 ^ width → b.neg < 2 ^ width
-    → (eqb a.pos b.pos && eqb a.neg b.neg) ≡ same (signs a) (signs b)
-same-words a b ap bp an bn =
-    ap₂ ◌&&◌ (equal_bits a.pos b.pos ap bp) (equal_bits a.neg b.neg an bn)
-    ∙ sym (every-and width (λ k. alike (bit k a.pos) (bit k b.pos)) (λ k. alike (bit k a.neg) (bit k b.neg))) ∙ sym (same-listed width (sign_of a) (sign_of b)) ∙ sym (ap₂ same (signs-listed a) (signs-listed b))
 
 -- ---- the resolvent
 

@@ -8,7 +8,7 @@ use Rattle.clauses.specs.declared.clause.Clause.{Clause}
 use Rattle.lines.specs.declared.line.Origin.{Origin}
 use Rattle.lines.specs.declared.line.Origin.TheVariants.{Given, Resolved, Widened}
 use Rattle.lines.specs.declared.line.Line.{Line}
-use Rattle.clauses.specs.Tests.{any, all}
+use Rattle.std.specs.List.{list_any, list_all}
 use Rattle.clauses.specs.Clauses.{Signs, clean, within, has, included, same, clash_in, resolvent}
 use Rattle.clauses.specs.Words.{signs}
 
@@ -56,8 +56,8 @@ number_of c cs = number_from 1 c cs
 -- from i: it holds at least the literals of i.
 abbrev pub follows : List Signs → Origin → Signs → Bool
 follows older Given c = true
-follows older (Resolved v i j) c = any (λ g. any (λ h. clash_in v g h && same c (resolvent v g h)) (line j older)) (line i older)
-follows older (Widened i) c = any (λ g. included g c) (line i older)
+follows older (Resolved v i j) c = list_any (λ g. list_any (λ h. clash_in v g h && same c (resolvent v g h)) (line j older)) (line i older)
+follows older (Widened i) c = list_any (λ g. included g c) (line i older)
 
 -- each line follows from those before it
 abbrev pub follow : List Signs → List Line → Bool
@@ -73,4 +73,4 @@ apart (c ∷ cs) = not (has c cs) && apart cs
 -- ways; no two lines are the same clause; no variable is above n; each
 -- resolved or widened line follows from the older lines that it names.
 abbrev pub keeps : ℕ → List Line → Bool
-keeps n ls = (all clean (clauses ls) && apart (clauses ls)) && (all (within n) (clauses ls) && follow [] ls)
+keeps n ls = (list_all clean (clauses ls) && apart (clauses ls)) && (list_all (within n) (clauses ls) && follow [] ls)

@@ -1,6 +1,6 @@
 -- Reading an assignment off a book that holds all resolvents. Assumes nothing.
 use Rattle.std.specs.Prelude.{ℕ, zero, suc, Bool, true, not, List, [], ◌∷◌, ◌++◌}
-use Rattle.clauses.specs.Tests.{any, all}
+use Rattle.std.specs.List.{list_any, list_all}
 use Rattle.clauses.specs.Values.{assigned}
 use Rattle.clauses.specs.Clauses.{Signs, broken, has, clashes, resolvent}
 
@@ -15,11 +15,11 @@ resolvents c d = in_one (clashes c d) (λ v. resolvent v c d)
 
 -- every resolvent of two of them that clash in exactly one variable is there
 abbrev pub closed : List Signs → Bool
-closed cs = all (λ c. all (λ d. all (λ r. has r cs) (resolvents c d)) cs) cs
+closed cs = list_all (λ c. list_all (λ d. list_all (λ r. has r cs) (resolvents c d)) cs) cs
 
 -- under an assignment of the first variables some clause is broken
 abbrev pub breaks : List Bool → List Signs → Bool
-breaks a cs = any (broken (assigned a)) cs
+breaks a cs = list_any (broken (assigned a)) cs
 
 -- In turn each further variable, k of them, is set true, or false if true
 -- breaks a clause; later variables are still unset.

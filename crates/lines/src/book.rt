@@ -8,6 +8,7 @@ use clauses::clause::Clause;
 use table::search::position;
 
 // The number of the oldest line that is this clause.
+#[tactic(auto, using(crate::proofs::Found::none_found))]
 pub fn number(lines: &[Line], clause: &Clause) -> Option<usize>
     ensures value { result ≡ number_of (signs clause.now) (clauses lines.now) }
 {

@@ -19,9 +19,7 @@ fn gather(numbers: &[i32], n: u32) -> Result<Clause, NoLiteral>
 {
     let mut clause = Clause { pos: 0, neg: 0 };
     for number in numbers {
-        if variable(*number, n).is_none() {
-            return Err(NoLiteral);
-        }
+        variable(*number, n).ok_or(NoLiteral)?;
         clause = clause.union(&Clause::unit(*number));
     }
     Ok(clause)
@@ -29,12 +27,10 @@ fn gather(numbers: &[i32], n: u32) -> Result<Clause, NoLiteral>
 
 // The line of a clause over the variables 1 to n, n at most 64: none where
 // every assignment meets the clause.
+#[tactic(auto, using(crate::proofs::Becoming::becomes))]
 pub fn given_line(numbers: &[i32], n: u32) -> Result<Option<Line>, NoLiteral>
     ensures becomes { Becomes (min n width) numbers.now result }
 {
     let clause = gather(numbers, n.min(WIDTH))?;
-    if clause.pos & clause.neg != 0 {
-        return Ok(None);
-    }
-    Ok(Some(Line::given(clause)))
+    Ok((clause.pos & clause.neg == 0).then_some(Line::given(clause)))
 }

@@ -81,7 +81,8 @@ impl PartialEq for Line {
 
     ghost laws = { lines_alike };
 
+    #[tactic(auto, using(clauses::proofs::Words::same_words))]
     fn eq(&self, other: &Line) -> bool {
-        (self.clause.pos == other.clause.pos) & (self.clause.neg == other.clause.neg)
+        self.clause() == other.clause()
     }
 }

@@ -16,6 +16,7 @@ pub struct Resolvent {
 }
 
 // The variables in which one clause holds v and the other -v.
+#[tactic(auto, using(crate::proofs::Paired::clash_words))]
 fn clash(a: &Clause, b: &Clause) -> u64
     ensures value { variables result ≡ clashes (signs a.now) (signs b.now) }
 {

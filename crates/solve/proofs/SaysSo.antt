@@ -1,5 +1,5 @@
 -- What the program answers is so of the text's words. Assumes nothing.
-use Rattle.std.proofs.Common.{◌≡◌, ℕ, ◌<◌, ◌≤◌, eqb, ltb, List, [], ◌∷◌, length, ℤ, IfOk, Some, None, Ok, Err, codes, Option, Result, refl, arith}
+use Rattle.std.proofs.Common.{◌≡◌, ℕ, ◌<◌, ◌≤◌, eqb, ltb, List, [], ◌∷◌, length, ℤ, IfOk, Some, None, Ok, Err, codes, Option, Result, sym, refl, subst, arith}
 use Rattle.std.specs.Str.{bytes_eq}
 use Rattle.std.proofs.lemmas.Bool.{cond_both, le-ltb, ltb-true, ltb-false}
 use Rattle.std.proofs.lemmas.Bool.Decides.{nat_tests}
@@ -13,11 +13,14 @@ use Rattle.text.specs.declared.problem.Progress.{Progress}
 use Rattle.text.specs.Limits.{most_bytes, most_variables, most_clauses}
 use Rattle.text.specs.Problem.{then_clauses, then_complete, go_on, sizes, head_of}
 use Rattle.text.specs.Reading.{reading, clauses_of, fault_of}
-use Rattle.text.specs.Refusals.{Refusal, refusal, text_refusal, read_refusal}
+use Rattle.text.specs.declared.faults.ReadFault.TheVariants.{Text}
+use Rattle.solve.specs.declared.answer.Counts.{Counts}
+use Rattle.solve.specs.declared.answer.Fault.{Fault}
+use Rattle.solve.specs.declared.answer.Fault.TheVariants.{Read}
 use Rattle.text.proofs.Steps.{number_by}
 use Rattle.text_laws.specs.Writing.{Writable, saying}
 use Rattle.text_laws.proofs.Sound.{sound_texts, line-sizes}
-use Rattle.solve.specs.Answers.{most_input, fault_or_count, answered, told_count, headed, surveyed}
+use Rattle.solve.specs.Answers.{most_input, fault_or_count, told_count, headed, surveyed}
 use Rattle.solve.specs.Words.{SaysSo}
 
 -- before the word e, the line's number of variables is at most the limit, if it is known
@@ -66,8 +69,8 @@ module _ (text : List ℕ) (short : length text ≤ most_input) where
       rw (le-ltb most_bytes (length text) (omega arith), line-sizes most_variables (length text) n (length cs) (pieces text) _ a.0 l a.1 e)
 
   -- a refusal is so if its words say no clauses over 1 to 64 variables
-  refusal_so : (r : Refusal) → ((n : ℕ) (cs : List (List ℤ)) → 0 < n → Say n cs → ⊥) → SaysSo text (answered r)
-  refusal_so (refusal by number place) never = λ _ n cs some l a e. never n cs some (l, a, e)
+  refusal_so : (f : Fault) → ((n : ℕ) (cs : List (List ℤ)) → 0 < n → Say n cs → ⊥) → SaysSo text (Err f)
+  refusal_so f never = λ _ n cs some l a e. never n cs some (l, a, e)
 
   -- the count of the clauses is so if its words can only say n variables
   count_so : (n : ℕ) → 0 < n → n ≤ most_variables → ((k : ℕ) (cs : List (List ℤ)) → Say k cs → k ≡ n)
@@ -78,20 +81,23 @@ module _ (text : List ℕ) (short : length text ≤ most_input) where
       let same = only k cs (omega arith, a, w) in
       (cs, refl, some, l, rw same at a, rw same at w)
   count_so n some l only (Some f) e =
-      refusal_so (read_refusal f) (λ k cs _ s.
+      refusal_so (Read f) (λ k cs _ s.
       let well = ((sound_texts n text cs).1 k (omega (arith, only k cs s)) s.1 (omega arith) s.2).1 in
       let no : ◌≡◌ {A = ℕ} 0 1 = cc in absurd (omega arith))
 
   -- what is answered to a head is so if its words can only say the head's variables
   head_so : (h : Result (ℕ × ℕ) TextFault) → Within most_variables h → ((n : ℕ) (cs : List (List ℤ)) → Say n cs → HasVariables n h) → SaysSo text (headed text h)
-  head_so (Err f) l only = refusal_so (text_refusal f) (λ n cs _. only n cs)
+  head_so (Err f) l only = refusal_so (Read (Text f)) (λ n cs _. only n cs)
   head_so (Ok (n, m)) l only =
       cond_both (eqb n 0) _ _ (SaysSo text)
       (λ z _ k cs some j a w. let same = only k cs (j, a, w) in grind (arith, nat_tests))
       (λ z. count_so n (grind (arith, nat_tests)) l only (fault_of (reading n text)) refl)
 
-pub says_so : (text : List ℕ) → SaysSo text (surveyed text)
-says_so text =
+surveyed_so : (text : List ℕ) → SaysSo text (surveyed text)
+surveyed_so text =
     cond_both (ltb most_input (length text)) _ _ (SaysSo text)
     (λ long short. absurd (omega (arith, ltb-true _ _ long)))
     (λ e. let short = ltb-false _ _ e in head_so text short (head_of text) (head_within text) (said_head text short))
+
+pub says_so : (text : List ℕ) (r : Result Counts Fault) → r ≡ surveyed text → SaysSo text r
+says_so text r e = subst (SaysSo text) (sym e) (surveyed_so text)

@@ -8,13 +8,18 @@ mod survey;
 
 use std::io;
 use std::io::Read;
-use survey::survey;
+use survey::{MOST_INPUT, survey};
 
 // Reads one byte more than is taken, so that longer input shows.
 fn run(rt: &HostRuntime) -> io::Result<()> {
     let mut text: Vec<u8> = Vec::new(rt.alloc());
-    rt.stdin().take(65_537).read_to_end(&mut text)?;
-    rt.print(survey(text.as_slice()))
+    rt.stdin()
+        .take(MOST_INPUT as u64 + 1)
+        .read_to_end(&mut text)?;
+    match survey(text.as_slice()) {
+        Ok(counts) => rt.print(counts),
+        Err(fault) => rt.print(fault),
+    }
 }
 
 fn main(rt: HostRuntime) {

@@ -5,16 +5,17 @@ ghost use Rattle.text.specs.Reading.{reading};
 ghost use Rattle.solve.specs.Answers.{counted, surveyed};
 ghost use Rattle.solve.specs.Words.{SaysSo};
 
-use crate::answer::Answer;
-use text::faults::ReadFault;
+use crate::answer::{Counts, Fault};
+use text::faults::{ReadFault, TextFault};
 use text::limits::MOST_LITERALS;
 use text::problem::line::head;
 use text::reader::Reader;
 
 // Bytes that the program takes.
-const MOST_INPUT: usize = 65_536;
+pub const MOST_INPUT: usize = 65_536;
 
 // The number of clauses of a text that ends well.
+#[tactic(auto, using(text::proofs::Counts::few_clauses))]
 fn count(text: &[u8], variables: u32) -> Result<u32, ReadFault>
     ensures value { result ≡ counted (reading variables text.now) }
 {
@@ -28,39 +29,23 @@ fn count(text: &[u8], variables: u32) -> Result<u32, ReadFault>
 }
 
 // The answer, by its definition alone.
-fn examine(text: &[u8]) -> Answer
+fn examine(text: &[u8]) -> Result<Counts, Fault>
     ensures value { result ≡ surveyed text.now }
 {
     if text.len() > MOST_INPUT {
-        return Answer::Refused {
-            number: 9,
-            place: 0,
-        };
+        return Err(TextFault::TooLong.into());
     }
-    let variables = match head(text) {
-        Err(fault) => return Answer::Refused {
-            number: fault.number(),
-            place: fault.place(),
-        },
-        Ok((variables, _)) => variables,
-    };
+    let (variables, _) = head(text)?;
     if variables == 0 {
-        return Answer::Refused {
-            number: 2,
-            place: 0,
-        };
+        return Err(Fault::NoVariables);
     }
-    match count(text, variables) {
-        Ok(clauses) => Answer::Read { clauses, variables },
-        Err(fault) => Answer::Refused {
-            number: fault.number(),
-            place: fault.place(),
-        },
-    }
+    let clauses = count(text, variables)?;
+    Ok(Counts { clauses, variables })
 }
 
 // What the program answers to a text, and what that tells of its words.
-pub fn survey(text: &[u8]) -> Answer
+#[tactic(auto, using(crate::proofs::SaysSo::says_so))]
+pub fn survey(text: &[u8]) -> Result<Counts, Fault>
     ensures value { result ≡ surveyed text.now }
     ensures said { SaysSo text.now result }
 {

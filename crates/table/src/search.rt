@@ -6,10 +6,5 @@ ghost use Rattle.std.specs.Prelude.{◌≡◌};
 pub fn position<T: PartialEq>(entries: &[T], x: &T) -> Option<usize>
     ensures first { FirstEqual (λ y b. b ≡ T.PartialEq.eq y x.now) entries.now result }
 {
-    for (i, y) in entries.iter().enumerate() {
-        if *y == *x {
-            return Some(i);
-        }
-    }
-    None
+    entries.iter().position(|y| *y == *x)
 }

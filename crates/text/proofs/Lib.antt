@@ -1,3 +1,3 @@
 pub mod Counts
 pub mod Steps
-mod Unread
+pub mod Unread

@@ -13,7 +13,7 @@ use Rattle.text.specs.declared.reader.State.TheVariants.{BeforeProblem, InsideCl
 use Rattle.text.specs.Limits.{most_clauses}
 use Rattle.tokens.specs.Numbers.{number_word}
 use Rattle.text.specs.Problem.{within, then_clauses, then_complete, expect}
-use Rattle.text.specs.Reading.{Step, on, gives, stops, between, after_problem, clause_word}
+use Rattle.text.specs.Reading.{Step, on, gives, stops, remaining, between, after_problem, clause_word}
 use Rattle.text.specs.Refusals.{text_refusal, read_refusal, place_of}
 
 -- a number of the problem line is at most `most`, or refused at its place
@@ -36,7 +36,7 @@ module _ (P : Step → Type 0) (p : ℕ) (stop : (f : ReadFault) → place_of (r
       number_by (λ r. P (after_problem (then_complete n r))) most_clauses p (last n) (λ f e. stop (Text f) e) (number_word w)
 
   -- a word within the clauses
-  pub clause_by : (most n left : ℕ) (ls : List ℤ) → P (gives ls p (between n (left - 1))) → ((x : ℤ) → P (on (InsideClause n left) (ls ++ x ∷ [])))
+  pub clause_by : (most n left : ℕ) (ls : List ℤ) → P (gives ls p (between n (left - 1))) → ((x : ℤ) → P (on (InsideClause (remaining n left)) (ls ++ x ∷ [])))
       → (o : Option ℤ) → P (clause_word most n left ls p o)
   clause_by most n left ls give more None = stop (Text (NotNumber p)) refl
   clause_by most n left ls give more (Some x) =

@@ -8,6 +8,7 @@ use Rattle.text.specs.declared.faults.ReadFault.TheVariants.{Text, Book}
 use Rattle.text.specs.declared.problem.Expected.TheVariants.{ProblemWord}
 use Rattle.text.specs.declared.problem.Progress.{Progress}
 use Rattle.text.specs.declared.problem.Progress.TheVariants.{Expecting, Complete}
+use Rattle.text.specs.declared.reader.Remaining.{Remaining}
 use Rattle.text.specs.declared.reader.State.{State}
 use Rattle.text.specs.declared.reader.State.TheVariants.{BeforeProblem, BetweenClauses, InsideClause, Done}
 use Rattle.text.specs.Limits.{most_bytes, most_literals}
@@ -41,8 +42,12 @@ pub data Step : Type 0 where
   stops : ReadFault → Step
 
 -- n variables, and `left` clauses still to come
+abbrev pub remaining : ℕ → ℕ → Remaining
+remaining n left = record { variables = n; clauses = left }
+
+-- the state before the first of them
 abbrev pub between : ℕ → ℕ → State
-between n left = cond (left == 0) Done (BetweenClauses n left)
+between n left = cond (left == 0) Done (BetweenClauses (remaining n left))
 
 abbrev pub after_problem : Result Progress TextFault → Step
 after_problem (Err f) = stops (Text f)
@@ -56,13 +61,13 @@ clause_word most n left ls p (Some x) =
     cond (unsigned_abs x == 0) (gives ls p (between n (left - 1)))
     (cond (nat_lt n (unsigned_abs x)) (stops (Text (AboveVariables p)))
     (cond (nat_le most (length ls)) (stops (Book (TooManyLiterals p)))
-    (on (InsideClause n left) (ls ++ x ∷ []))))
+    (on (InsideClause (remaining n left)) (ls ++ x ∷ []))))
 
 -- what the word w at the place p brings; a clause may have `most` literals
 abbrev pub step : ℕ → ℕ → State → List ℤ → ℕ → List ℕ → Step
 step most limit (BeforeProblem e) ls p w = after_problem (expect limit e p w)
-step most limit (BetweenClauses n left) ls p w = clause_word most n left [] p (number_word w)
-step most limit (InsideClause n left) ls p w = clause_word most n left ls p (number_word w)
+step most limit (BetweenClauses a) ls p w = clause_word most a.variables a.clauses [] p (number_word w)
+step most limit (InsideClause a) ls p w = clause_word most a.variables a.clauses ls p (number_word w)
 step most limit Done ls p w = stops (Text (WordAfterClauses p))
 
 -- the same of any piece: a comment is passed over
@@ -73,8 +78,8 @@ step_piece most limit s ls (comment p c) = on s ls
 -- what the end of the text brings; `end` is its length
 abbrev pub at_end : ℕ → State → Reading
 at_end end (BeforeProblem e) = refused (Text (NotProblemLine end))
-at_end end (BetweenClauses n left) = refused (Text (ClausesMissing end))
-at_end end (InsideClause n left) = refused (Text (EndsInsideClause end))
+at_end end (BetweenClauses a) = refused (Text (ClausesMissing end))
+at_end end (InsideClause a) = refused (Text (EndsInsideClause end))
 at_end end Done = well
 
 abbrev pub go_on : Step → (State → List ℤ → Reading) → Reading

@@ -7,10 +7,11 @@ use Rattle.text.specs.declared.faults.BookFault.TheVariants.{TooManyLiterals}
 use Rattle.text.specs.declared.faults.ReadFault.{ReadFault}
 use Rattle.text.specs.declared.faults.ReadFault.TheVariants.{Text, Book}
 
--- the text itself, or the book that its clauses go to
+-- the text itself, the book that its clauses go to, or the program that reads it
 pub data Refuser : Type 0 where
   the_text : Refuser
   the_book : Refuser
+  the_program : Refuser
 
 -- a refusal as it is told: place is the byte place, counted from 0
 pub data Refusal : Type 0 where

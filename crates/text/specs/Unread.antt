@@ -1,5 +1,5 @@
 -- What a reader of a text has still to read, and what each of its calls gives. Assumes nothing.
-use Rattle.std.specs.Prelude.{◌≡◌, ℕ, Bool, true, false, cond, List, [], length, ℤ, Some, None, Ok, Err, Option, Result, nat_lt}
+use Rattle.std.specs.Prelude.{◌≡◌, ℕ, cond, List, [], length, ℤ, Some, None, Ok, Err, Option, Result, nat_lt}
 use Rattle.table.specs.Held.{held, places_of}
 use Rattle.tokens.specs.declared.stream.Tokens.{Tokens}
 use Rattle.tokens.specs.Scanning.{coming}
@@ -7,19 +7,18 @@ use Rattle.tokens.specs.Words.{Piece}
 use Rattle.text.specs.declared.faults.ReadFault.{ReadFault}
 use Rattle.text.specs.declared.faults.ReadFault.TheVariants.{Text}
 use Rattle.text.specs.declared.faults.TextFault.TheVariants.{TooLong}
-use Rattle.text.specs.declared.problem.Expected.{Expected}
 use Rattle.text.specs.declared.reader.Reader.{Reader}
+use Rattle.text.specs.declared.reader.Remaining.{Remaining}
 use Rattle.text.specs.declared.reader.State.{State}
 use Rattle.text.specs.declared.reader.State.TheVariants.{BeforeProblem, BetweenClauses, InsideClause, Done}
 use Rattle.text.specs.Limits.{most_bytes}
-use Rattle.text.specs.Problem.{expect_piece}
-use Rattle.text.specs.Reading.{Reading, clause, well, refused, Step, on, gives, stops, after_problem, clause_word, step_piece, read}
+use Rattle.text.specs.Reading.{Reading, clause, well, refused, Step, on, gives, stops, clause_word, step_piece, read}
 
 -- between clauses there are no literals yet
 abbrev pub begun : State → List ℤ → List ℤ
 begun (BeforeProblem e) ls = []
-begun (BetweenClauses n left) ls = []
-begun (InsideClause n left) ls = ls
+begun (BetweenClauses a) ls = []
+begun (InsideClause a) ls = ls
 begun Done ls = []
 
 -- what a text has still to say, in a state with the literals ls so far
@@ -37,13 +36,9 @@ unread r =
 abbrev pub brings : Reader → Piece → Step
 brings r x = step_piece (length (places_of r.literals)) r.limit r.state (begun r.state (held r.literals)) x
 
--- the step that a word of the problem line brings
-abbrev pub problem_brings : Reader → Expected → Piece → Step
-problem_brings r e x = after_problem (expect_piece r.limit e x)
-
 -- the step that a number brings, after the literals that are held
-abbrev pub number_brings : Reader → ℕ → ℕ → ℕ → ℤ → Step
-number_brings r n left p x = clause_word (length (places_of r.literals)) n left (held r.literals) p (Some x)
+abbrev pub number_brings : Reader → Remaining → ℕ → ℤ → Step
+number_brings r a p x = clause_word (length (places_of r.literals)) a.variables a.clauses (held r.literals) p (Some x)
 
 -- how a text ends, as a call of the reader tells it
 abbrev pub Ended : Reading → Result (Option ℕ) ReadFault → Type 0
@@ -65,10 +60,10 @@ Alike was is =
     (is.tokens ≡ was.tokens) × (is.limit ≡ was.limit) × (length (places_of is.literals) ≡ length (places_of was.literals))
 
 -- What a step does to a reader: it goes on to a state with some literals so
--- far; it gives the literals that are held, and the place p; or it is refused,
--- and state and literals stay.
-abbrev pub Took : Step → ℕ → Result Bool ReadFault → Reader → Reader → Type 0
-Took brought p (Ok true) was is = brought ≡ gives (held is.literals) p is.state
-Took brought p (Ok false) was is = brought ≡ on is.state (begun is.state (held is.literals))
-Took brought p (Err f) was is =
+-- far; it gives the literals that are held, and the place of their ending 0; or
+-- it is refused, and state and literals stay.
+abbrev pub Took : Step → Result (Option ℕ) ReadFault → Reader → Reader → Type 0
+Took brought (Ok (Some p)) was is = brought ≡ gives (held is.literals) p is.state
+Took brought (Ok None) was is = brought ≡ on is.state (begun is.state (held is.literals))
+Took brought (Err f) was is =
     (brought ≡ stops f) × (is.state ≡ was.state) × (begun is.state (held is.literals) ≡ begun was.state (held was.literals))

@@ -15,7 +15,7 @@ pub enum Expected {
     Clauses(u32),
 }
 
-// How far it is read after a word.
+// How far it is read after a word: either way it goes on, so no `Result`.
 #[derive(Clone, Copy)]
 pub enum Progress {
     Expecting(Expected),

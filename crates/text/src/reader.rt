@@ -6,13 +6,20 @@ use crate::problem::Expected;
 use table::filled::Filled;
 use tokens::stream::Tokens;
 
-// Where in the text the next word stands. `left` counts the clauses that are
-// still to come, the one that is being read among them.
+// The clauses that remain to be read, the one that is being read among them,
+// and the text's number of variables.
+#[derive(Clone, Copy)]
+pub struct Remaining {
+    pub(crate) variables: u32,
+    pub(crate) clauses: u32,
+}
+
+// Where in the text the next word stands.
 #[derive(Clone, Copy)]
 pub enum State {
     BeforeProblem(Expected),
-    BetweenClauses { variables: u32, left: u32 },
-    InsideClause { variables: u32, left: u32 },
+    BetweenClauses(Remaining),
+    InsideClause(Remaining),
     Done,
 }
 

@@ -12,10 +12,9 @@ use Rattle.text.specs.Limits.{most_bytes, most_literals}
 use Rattle.tokens.specs.Numbers.{number_word}
 use Rattle.text.specs.Reading.{Reading, clause, well, refused, fault_of, Step, on, gives, stops, step, at_end, go_on, read, reading}
 use Rattle.text.specs.Refusals.{read_refusal, place_of}
-use Rattle.tokens.specs.declared.stream.Part.TheVariants.{Word, Line}
-use Rattle.tokens.specs.Scanning.{Mode, gap, inside, opens_comment, next_mode, ended, unended, scan}
+use Rattle.tokens.specs.Scanning.{Word, Line, Mode, gap, inside, opens_comment, next_mode, ended, unended, scan}
 use Rattle.tokens.specs.Words.{Piece, word, comment, parts_words, ends_line, early_after}
-use Rattle.tokens.proofs.Lines.{scan-by_lines}
+use Rattle.tokens.proofs.Lines.{pieces_scanned}
 use Rattle.text.proofs.Steps.{problem_by, clause_by}
 
 -- a word that is refused is refused at its place
@@ -26,8 +25,8 @@ StopsAt p (stops f) = place_of (read_refusal f) ≡ p
 
 step-at : (most limit : ℕ) (s : State) (ls : List ℤ) (p : ℕ) (w : List ℕ) → StopsAt p (step most limit s ls p w)
 step-at most limit (BeforeProblem e) ls p w = problem_by (StopsAt p) p (λ _ h. h) limit w (λ _. tt) (λ _ _ _. tt) e
-step-at most limit (BetweenClauses n left) ls p w = clause_by (StopsAt p) p (λ _ h. h) most n left [] tt (λ _. tt) (number_word w)
-step-at most limit (InsideClause n left) ls p w = clause_by (StopsAt p) p (λ _ h. h) most n left ls tt (λ _. tt) (number_word w)
+step-at most limit (BetweenClauses a) ls p w = clause_by (StopsAt p) p (λ _ h. h) most a.variables a.clauses [] tt (λ _. tt) (number_word w)
+step-at most limit (InsideClause a) ls p w = clause_by (StopsAt p) p (λ _ h. h) most a.variables a.clauses ls tt (λ _. tt) (number_word w)
 step-at most limit Done ls p w = refl
 
 -- no word stands before the place q
@@ -60,8 +59,8 @@ go_on-alike f (stops g) rest rest' alike e = refl
 module _ (most limit q end : ℕ) (before-end : q ≤ end) where
   end_later : (s : State) → RefusedLater q (at_end end s)
   end_later (BeforeProblem e) = before-end
-  end_later (BetweenClauses n left) = before-end
-  end_later (InsideClause n left) = before-end
+  end_later (BetweenClauses a) = before-end
+  end_later (InsideClause a) = before-end
   end_later Done = tt
 
   -- later words are refused later
@@ -143,7 +142,7 @@ reading_is : (limit : ℕ) (text : List ℕ) (ps : List Piece) → length text �
     → reading limit text ≡ read most_literals limit (length text) (BeforeProblem ProblemWord) [] ps
 reading_is limit text ps h e =
     cond-false (ltb most_bytes (length text)) _ _ (le-ltb most_bytes (length text) h)
-    ∙ ap (read most_literals limit (length text) (BeforeProblem ProblemWord) []) (sym (scan-by_lines true 0 text) ∙ e)
+    ∙ ap (read most_literals limit (length text) (BeforeProblem ProblemWord) []) (sym (pieces_scanned true 0 text) ∙ e)
 
 pub looks_no_further : RefusalLooksNoFurther
 looks_no_further limit front back other f apart apart' long long' e before =

@@ -22,7 +22,7 @@ use Rattle.text_laws.specs.Laws.{SoundTextsSayTheirClauses}
 use Rattle.text.specs.Limits.{most_bytes, most_clauses, most_literals}
 use Rattle.tokens.specs.Numbers.{number_word}
 use Rattle.text.specs.Problem.{within, then_clauses, then_complete, expect, sizes, go_on as line_goes_on}
-use Rattle.text.specs.Reading.{Reading, refused, clauses_of, fault_of, Step, on, gives, stops, between, after_problem, clause_word, step, at_end, go_on, read}
+use Rattle.text.specs.Reading.{Reading, refused, clauses_of, fault_of, Step, on, gives, stops, remaining, between, after_problem, clause_word, step, at_end, go_on, read}
 use Rattle.tokens.specs.Words.{Piece, word, comment, pieces, words_of}
 use Rattle.text_laws.specs.Writing.{Literal, Writable, clause_words, saying}
 use Rattle.text_laws.proofs.Numerals.{number_words}
@@ -135,8 +135,8 @@ RestSaid n left ls ws cs =
 -- in a state, the words ws that are left say the clauses cs that are left
 abbrev Said : ℕ → State → List ℤ → List (List ℕ) → List (List ℤ) → Type 0
 Said limit (BeforeProblem e) ls ws cs = Completes limit (λ n m rest. ClausesSaid n m rest cs) (Expecting e) ws
-Said limit (BetweenClauses n left) ls ws cs = RestSaid n left [] ws cs
-Said limit (InsideClause n left) ls ws cs = RestSaid n left ls ws cs
+Said limit (BetweenClauses a) ls ws cs = RestSaid a.variables a.clauses [] ws cs
+Said limit (InsideClause a) ls ws cs = RestSaid a.variables a.clauses ls ws cs
 Said limit Done ls ws cs = (ws ≡ []) × (cs ≡ [])
 
 -- after the problem line or a clause, m clauses are left
@@ -209,21 +209,21 @@ module _ (limit : ℕ) (ws : List (List ℕ)) (cs : List (List ℤ)) where
         rw first (ds, rw append-nil at e, between_said limit n (left - 1) ws ds (rw after s))
     clause_said (x ∷ xs, ds, rest, e, f, l, a, s) =
         let known = (number_words w x).1 (cc) (omega arith) in
-        let takes : clause_word most_literals n left ls p (Some x) ≡ on (InsideClause n left) (ls ++ x ∷ []) = grind (arith, nat_tests) in
+        let takes : clause_word most_literals n left ls p (Some x) ≡ on (InsideClause (remaining n left)) (ls ++ x ∷ []) = grind (arith, nat_tests) in
         rw (known, takes) (xs, ds, rest, rw append_assoc e, cc, omega (arith, length-append ls (x ∷ [])), a.1, s)
 
   -- a word in any state
   step-brings : (s : State) (ls : List ℤ) (p : ℕ) (w : List ℕ) → Brought (step most_literals limit s ls p w) ↔ Said limit s ls (w ∷ ws) cs
   step-brings (BeforeProblem e) ls p w = Iff.trans (problem_brings (expect limit e p w)) (expect-brings limit _ e p w)
-  step-brings (BetweenClauses n left) ls p w = (clause_tells n left [] p w (number_word w) refl, clause_said n left [] p w)
-  step-brings (InsideClause n left) ls p w = (clause_tells n left ls p w (number_word w) refl, clause_said n left ls p w)
+  step-brings (BetweenClauses a) ls p w = (clause_tells a.variables a.clauses [] p w (number_word w) refl, clause_said a.variables a.clauses [] p w)
+  step-brings (InsideClause a) ls p w = (clause_tells a.variables a.clauses ls p w (number_word w) refl, clause_said a.variables a.clauses ls p w)
   step-brings Done ls p w = (λ h. absurd h, λ (e, _). absurd (cons≢nil e))
 
 module _ (limit end : ℕ) where
   end_says : (s : State) (ls : List ℤ) (cs : List (List ℤ)) → Says cs (at_end end s) ↔ Said limit s ls [] cs
   end_says (BeforeProblem e) ls cs = refused_says _ cs (λ h. h)
-  end_says (BetweenClauses n left) ls cs = refused_says _ cs (λ h. no_words h.0 h.2 h.4)
-  end_says (InsideClause n left) ls cs = refused_says _ cs (λ h. no_words h.0 h.2 h.4)
+  end_says (BetweenClauses a) ls cs = refused_says _ cs (λ h. no_words h.0 h.2 h.4)
+  end_says (InsideClause a) ls cs = refused_says _ cs (λ h. no_words h.0 h.2 h.4)
   end_says Done ls cs = (λ (e, _). (refl, sym e), λ (_, e). (sym e, refl))
 
   -- pieces are read as the clauses that their words say

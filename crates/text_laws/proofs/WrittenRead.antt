@@ -8,11 +8,10 @@ use Rattle.std.proofs.lemmas.Bool.Decides.{nat_tests}
 use Rattle.text_laws.specs.Laws.{WrittenIsRead, WrittenHasItsHead}
 use Rattle.text.specs.Limits.{most_bytes, most_variables, most_literals}
 use Rattle.tokens.specs.Numbers.{is_digit, all_digits}
-use Rattle.tokens.specs.declared.stream.Part.TheVariants.{Word}
-use Rattle.tokens.specs.Scanning.{scan, gap, inside}
+use Rattle.tokens.specs.Scanning.{Word, scan, gap, inside}
 use Rattle.tokens.specs.Words.{pieces, words_of, parts_words, ends_line}
 use Rattle.text_laws.specs.Writing.{Literal, Writable, clause_words, clause_line, saying, written}
-use Rattle.tokens.proofs.Lines.{scan-by_lines}
+use Rattle.tokens.proofs.Lines.{pieces_scanned}
 use Rattle.text_laws.proofs.Numerals.{own}
 use Rattle.text_laws.proofs.Sound.{sound_texts, line-sizes}
 
@@ -69,7 +68,7 @@ written-words : (n : ℕ) (cs : List (List ℤ)) → Writable n cs → words_of 
 written-words n cs a =
     let m = length cs in
     let sizes = next_word (decimal n) 32 _ _ (decimal_word n a.0) refl (next_word (decimal m) 10 _ _ (decimal_word m (omega arith)) refl (clause-lines-words n a.0 cs a.2)) in
-    ap words_of (sym (scan-by_lines true 0 (written n cs))) ∙ ap (λ ws. codes "p" ∷ codes "cnf" ∷ ws) (sizes false 6)
+    ap words_of (sym (pieces_scanned true 0 (written n cs))) ∙ ap (λ ws. codes "p" ∷ codes "cnf" ∷ ws) (sizes false 6)
 
 pub written_read : WrittenIsRead
 written_read limit n cs a l fits = (sound_texts limit (written n cs) cs).1 n l a fits (written-words n cs a)

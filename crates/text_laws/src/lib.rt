@@ -6,21 +6,17 @@
 ghost use Rattle.text_laws.specs.Examples.{NumberWords, SoundTexts, LongClauses, FaultyTexts};
 ghost use Rattle.text_laws.specs.Laws.{NumberWordsAreDecimals, SoundTextsSayTheirClauses, WrittenIsRead, WrittenHasItsHead, RefusalLooksNoFurther};
 
-pub fn laws_hold() -> u8
+pub fn laws_hold()
     ensures numbers { NumberWordsAreDecimals }
     ensures sound { SoundTextsSayTheirClauses }
     ensures read { WrittenIsRead }
     ensures head { WrittenHasItsHead }
     ensures further { RefusalLooksNoFurther }
-{
-    0
-}
+{}
 
-pub fn examples_hold() -> u8
+pub fn examples_hold()
     ensures numbers { NumberWords }
     ensures sound { SoundTexts }
     ensures long { LongClauses }
     ensures faulty { FaultyTexts }
-{
-    0
-}
+{}

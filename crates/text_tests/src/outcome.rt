@@ -1,27 +1,27 @@
 // What reading a whole text comes to.
-use text::limits::MOST_LITERALS;
+use text::faults::telling::Telling;
+use text::limits::{MOST_CLAUSES, MOST_LITERALS};
 use text::reader::Reader;
 
-// How many clauses and literals were read, and the refusal, 0 at 0 if none.
+// How many clauses and literals were read, and the refusal, if there is one:
+// the number and the place that a user is told.
 #[derive(Clone, Copy, PartialEq, Eq, Debug)]
 pub struct Outcome {
     pub clauses: u32,
     pub literals: usize,
-    pub number: u8,
-    pub place: usize,
+    pub refusal: Option<(u8, usize)>,
 }
 
-// Reads a text clause by clause. No text has more than 65,536 clauses.
+// Reads a text clause by clause. No text has more clauses than `MOST_CLAUSES`.
 pub(crate) fn read_whole(text: &[u8], limit: u32) -> Outcome {
     let mut places = [0; MOST_LITERALS];
     let mut reader = Reader::new(text, limit, &mut places);
     let mut read = Outcome {
         clauses: 0,
         literals: 0,
-        number: 0,
-        place: 0,
+        refusal: None,
     };
-    for _ in 0..65_537 {
+    for _ in 0..=MOST_CLAUSES {
         match reader.next_clause() {
             Ok(None) => return read,
             Ok(Some(_)) => {
@@ -29,8 +29,7 @@ pub(crate) fn read_whole(text: &[u8], limit: u32) -> Outcome {
                 read.literals = read.literals.saturating_add(reader.clause().len());
             }
             Err(fault) => {
-                read.number = fault.number();
-                read.place = fault.place();
+                read.refusal = Some((fault.number(), fault.place()));
                 return read;
             }
         }

@@ -4,46 +4,45 @@ use table::filled::Filled;
 use table::search::position;
 use text::problem::line::head;
 
-// A text, and the clauses, literals, refusal and place that it comes to.
-type Case = (&'static [u8], u32, usize, u8, usize);
+// A text, and the clauses, the literals and the refusal that it comes to.
+type Case = (&'static [u8], u32, usize, Option<(u8, usize)>);
 
 const CASES: [Case; 24] = [
-    (b"p cnf 2 2\n1 -2 0\n-1 0\n", 2, 3, 0, 0),
-    (b"c one\nc\np cnf 1 1 1 0", 1, 1, 0, 0),
-    (b"p\ncnf\n1\r\n1\t1 1 0", 1, 2, 0, 0),
-    (b"p cnf 0 0", 0, 0, 0, 0),
-    (b"p cnf 0 1 0", 1, 0, 0, 0),
-    (b"p cnf 64 1 64 -64 0 \n", 1, 2, 0, 0),
-    (b"p cnf 2 1\n1 3 0", 0, 0, 13, 12),
-    (b"p cnf 2 2\n1 0\n2 0 -1", 2, 2, 15, 18),
-    (b"p cnf 65 x", 0, 0, 11, 6),
-    (b"p\nc x", 0, 0, 10, 2),
-    (b"", 0, 0, 10, 0),
-    (b"c only a comment", 0, 0, 10, 16),
-    (b" c no comment", 0, 0, 10, 1),
-    (b"p cnf -1 0", 0, 0, 10, 6),
-    (b"p cnf 1 65537", 0, 0, 11, 8),
-    (b"p cnf 1 100000", 0, 0, 10, 8),
-    (b"p cnf 1 1\nc x\n1 0", 0, 0, 12, 10),
-    (b"p cnf 1 1 -0 0", 0, 0, 12, 10),
-    (b"p cnf 1 1 1\x00 0", 0, 0, 12, 10),
-    (b"p cnf 1 1 \xff 0", 0, 0, 12, 10),
-    (b"p cnf 1 1 1", 0, 0, 14, 11),
-    (b"p cnf 1 2 1 0", 1, 1, 16, 13),
-    (b"p cnf 1 2 1 0 1", 1, 1, 14, 15),
-    (b"p cnf 1 1 1 0 x", 1, 1, 15, 14),
+    (b"p cnf 2 2\n1 -2 0\n-1 0\n", 2, 3, None),
+    (b"c one\nc\np cnf 1 1 1 0", 1, 1, None),
+    (b"p\ncnf\n1\r\n1\t1 1 0", 1, 2, None),
+    (b"p cnf 0 0", 0, 0, None),
+    (b"p cnf 0 1 0", 1, 0, None),
+    (b"p cnf 64 1 64 -64 0 \n", 1, 2, None),
+    (b"p cnf 2 1\n1 3 0", 0, 0, Some((13, 12))),
+    (b"p cnf 2 2\n1 0\n2 0 -1", 2, 2, Some((15, 18))),
+    (b"p cnf 65 x", 0, 0, Some((11, 6))),
+    (b"p\nc x", 0, 0, Some((10, 2))),
+    (b"", 0, 0, Some((10, 0))),
+    (b"c only a comment", 0, 0, Some((10, 16))),
+    (b" c no comment", 0, 0, Some((10, 1))),
+    (b"p cnf -1 0", 0, 0, Some((10, 6))),
+    (b"p cnf 1 65537", 0, 0, Some((11, 8))),
+    (b"p cnf 1 100000", 0, 0, Some((10, 8))),
+    (b"p cnf 1 1\nc x\n1 0", 0, 0, Some((12, 10))),
+    (b"p cnf 1 1 -0 0", 0, 0, Some((12, 10))),
+    (b"p cnf 1 1 1\x00 0", 0, 0, Some((12, 10))),
+    (b"p cnf 1 1 \xff 0", 0, 0, Some((12, 10))),
+    (b"p cnf 1 1 1", 0, 0, Some((14, 11))),
+    (b"p cnf 1 2 1 0", 1, 1, Some((16, 13))),
+    (b"p cnf 1 2 1 0 1", 1, 1, Some((14, 15))),
+    (b"p cnf 1 1 1 0 x", 1, 1, Some((15, 14))),
 ];
 
 #[test]
 fn texts(rt: HostRuntime) {
-    for case in &CASES {
+    for (text, clauses, literals, refusal) in CASES {
         let want = Outcome {
-            clauses: case.1,
-            literals: case.2,
-            number: case.3,
-            place: case.4,
+            clauses,
+            literals,
+            refusal,
         };
-        assert_eq!(rt; read_whole(case.0, 64), want);
+        assert_eq!(rt; read_whole(text, 64), want);
     }
 }
 
@@ -57,16 +56,14 @@ fn long_clauses(rt: HostRuntime) -> Result<(), Fail> {
     let whole = Outcome {
         clauses: 0,
         literals: 0,
-        number: 14,
-        place: 265,
+        refusal: Some((14, 265)),
     };
     assert_eq!(rt; read_whole(text.as_slice(), 64), whole);
     text.extend_from_slice(b" -1 0")?;
     let more = Outcome {
         clauses: 0,
         literals: 0,
-        number: 6,
-        place: 266,
+        refusal: Some((6, 266)),
     };
     assert_eq!(rt; read_whole(text.as_slice(), 64), more);
     Ok(())
@@ -80,8 +77,7 @@ fn large_texts(rt: HostRuntime) -> Result<(), Fail> {
     let whole = Outcome {
         clauses: 1,
         literals: 0,
-        number: 0,
-        place: 0,
+        refusal: None,
     };
     assert_eq!(rt; read_whole(text.as_slice(), 3), whole);
     assert_eq!(rt; head(text.as_slice()).is_ok(), true);
@@ -89,8 +85,7 @@ fn large_texts(rt: HostRuntime) -> Result<(), Fail> {
     let long = Outcome {
         clauses: 0,
         literals: 0,
-        number: 9,
-        place: 0,
+        refusal: Some((9, 0)),
     };
     assert_eq!(rt; read_whole(text.as_slice(), 3), long);
     assert_eq!(rt; head(text.as_slice()).is_err(), true);

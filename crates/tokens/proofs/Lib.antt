@@ -1,4 +1,3 @@
 mod Digits
 mod Gaps
 pub mod Lines
-mod Spelled

@@ -3,8 +3,7 @@ use Rattle.std.proofs.Common.{◌≡◌, ℕ, ◌+◌, Bool, true, false, cond, 
 use Rattle.std.proofs.lemmas.List.{append-nil}
 use Rattle.std.proofs.lemmas.Bool.{eqb-true, and_right}
 use Rattle.std.proofs.lemmas.Bool.Decides.{nat_tests}
-use Rattle.tokens.specs.declared.stream.Part.TheVariants.{Word, Line}
-use Rattle.tokens.specs.Scanning.{Mode, gap, inside, opens_comment, next_mode, ended, unended, scan}
+use Rattle.tokens.specs.Scanning.{Word, Line, Mode, gap, inside, opens_comment, next_mode, ended, unended, scan}
 use Rattle.tokens.specs.Words.{Stretch, at, Piece, word, comment, cut, stretches, lines, parts_words, ends_line, words, filled_words, early_after, early_past, pieces_of_lines}
 
 -- a word that began at s with the bytes w goes on into the first stretch
@@ -103,5 +102,5 @@ from_line : (early : Bool) (ls : List Stretch) → by_lines (gap early true) ls 
 from_line early [] = refl
 from_line early (at p l ∷ ls) = refl
 
-pub scan-by_lines : (early : Bool) (p : ℕ) (text : List ℕ) → scan (gap early true) p text ≡ pieces_of_lines early (lines p text)
-scan-by_lines early p text = scan_from (gap early true) p text ∙ from_line early (lines p text)
+pub pieces_scanned : (early : Bool) (p : ℕ) (text : List ℕ) → scan (gap early true) p text ≡ pieces_of_lines early (lines p text)
+pieces_scanned early p text = scan_from (gap early true) p text ∙ from_line early (lines p text)

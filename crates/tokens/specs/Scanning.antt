@@ -1,14 +1,16 @@
 -- What is left of a text's words and comments in the middle of it, byte by byte. Assumes nothing.
 -- That this gives the same pieces as going line by line is promised by `Tokens::new`.
-use Rattle.std.specs.Prelude.{◌≡◌, ℕ, ◌+◌, ◌-◌, ◌<◌, ◌≤◌, Bool, true, false, cond, ◌&&◌, ◌||◌, List, [], ◌∷◌, ◌++◌, length, drop, ℤ, Some, None, codes, Option, ◌==◌, slice_index, slice_range}
-use Rattle.std.specs.Str.{bytes_eq}
-use Rattle.tokens.specs.declared.stream.Part.{Part}
-use Rattle.tokens.specs.declared.stream.Part.TheVariants.{Word, Line}
+use Rattle.std.specs.Prelude.{◌≡◌, ℕ, ◌+◌, ◌-◌, ◌<◌, ◌≤◌, Bool, false, cond, ◌&&◌, ◌||◌, List, [], ◌∷◌, ◌++◌, length, drop, Some, None, Option, ◌==◌, slice_index}
+use Rattle.tokens.specs.declared.stream.Placed.{Placed}
 use Rattle.tokens.specs.declared.stream.Token.{Token}
 use Rattle.tokens.specs.declared.stream.Token.TheVariants.{Number, Problem, Format, Comment, Other}
 use Rattle.tokens.specs.declared.stream.Tokens.{Tokens}
-use Rattle.tokens.specs.Numbers.{number_word}
 use Rattle.tokens.specs.Words.{Piece, word, comment, parts_words, ends_line, early_after}
+
+-- what begins after a gap: a word, or a comment, which is a whole line
+pub data Part : Type 0 where
+  Word : Part
+  Line : Part
 
 -- a word ends at a byte that parts words, a comment at the end of its line
 abbrev pub part_ends : Part → ℕ → Bool
@@ -61,10 +63,6 @@ scan m p (b ∷ bs) = ended m b ++ scan (next_mode m p b) (p + 1) bs
 abbrev pub begins_line : List ℕ → ℕ → Bool
 begins_line text p = p == 0 || slice_index text (p - 1) == 10
 
--- the bytes from the place p up to the place e
-abbrev pub span : List ℕ → ℕ → ℕ → List ℕ
-span text p e = slice_range text p e
-
 -- the pieces from the place p on, where p stands in no word and in no comment
 abbrev pub pieces_from : Bool → List ℕ → ℕ → List Piece
 pieces_from early text p = scan (gap early (begins_line text p)) p (drop p text)
@@ -78,15 +76,9 @@ abbrev pub GapEnds : Tokens → Type 0
 GapEnds t =
     (t.at < length t.text.now → parts_words (slice_index t.text.now t.at) ≡ false) × (length t.text.now ≤ t.at → coming t ≡ [])
 
--- what begins where a gap ends
-abbrev pub here : Tokens → Part
-here t = opened t.early (begins_line t.text.now t.at) (slice_index t.text.now t.at)
-
--- of what is to come, the part that begins here and ends at the place e is the first piece
-abbrev pub Ends : Part → Tokens → ℕ → Type 0
-Ends part t e =
-    let w = span t.text.now t.at e in
-    coming t ≡ piece_of part t.at w ∷ pieces_from (early_past_part part t.early w) t.text.now e
+-- a comment begins where a gap ends
+abbrev pub opens_here : Tokens → Bool
+opens_here t = opens_comment t.early (begins_line t.text.now t.at) (slice_index t.text.now t.at)
 
 -- the piece that a token at a place stands for
 abbrev pub piece : ℕ → Token → Piece
@@ -96,23 +88,14 @@ piece p (Format w) = word p w.now
 piece p (Comment w) = comment p w.now
 piece p (Other w) = word p w.now
 
+abbrev pub piece_at : Placed → Piece
+piece_at t = piece t.place t.token
+
 -- a token that stands for the word w
 abbrev pub IsWord : Token → List ℕ → Type 0
 IsWord t w = (p : ℕ) → piece p t ≡ word p w
 
--- what a word is: its number, if it is a number word, and whether it is p or cnf
-abbrev pub Tells : List ℕ → Option ℤ → Bool → Bool → Type 0
-Tells w number p cnf = (number_word w ≡ number) × (bytes_eq w (codes "p") ≡ p) × (bytes_eq w (codes "cnf") ≡ cnf)
-
--- a token is of the kind that its word is
-abbrev pub Kind : Token → Type 0
-Kind (Number w x) = Tells w.now (Some x) false false
-Kind (Problem w) = Tells w.now None true false
-Kind (Format w) = Tells w.now None false true
-Kind (Comment w) = Unit {0}
-Kind (Other w) = Tells w.now None false false
-
 -- what was told is the first piece that was to come; `None`: there was none
-abbrev pub Told : List Piece → Option (ℕ × Token) → List Piece → Type 0
+abbrev pub Told : List Piece → Option Placed → List Piece → Type 0
 Told was None left = (was ≡ []) × (left ≡ [])
-Told was (Some t) left = (was ≡ piece t.0 t.1 ∷ left) × Kind t.1
+Told was (Some t) left = was ≡ piece_at t ∷ left

@@ -20,7 +20,7 @@ fn plain(word: &[u8]) -> Option<u32>
     }
     let mut n: u32 = 0;
     for b in word {
-        if *b < b'0' || *b > b'9' {
+        if !b.is_ascii_digit() {
             return None;
         }
         n = n * 10 + u32::from(*b - b'0');
@@ -28,19 +28,15 @@ fn plain(word: &[u8]) -> Option<u32>
     Some(n)
 }
 
-// The number that a number word writes; none for any other word.
+// The number that a number word writes; none for any other word. The casts are
+// exact, since `plain` stays below 100,000; a `try_from` would add a branch that
+// is never taken.
 pub fn number(word: &[u8]) -> Option<i32>
     ensures value { result ≡ number_word word.now }
 {
     match word {
         [b'0'] => Some(0),
-        [b'-', digits @ ..] => match plain(digits) {
-            Some(n) => Some(-(n as i32)),
-            None => None,
-        },
-        _ => match plain(word) {
-            Some(n) => Some(n as i32),
-            None => None,
-        },
+        [b'-', digits @ ..] => Some(-(plain(digits)? as i32)),
+        _ => Some(plain(word)? as i32),
     }
 }

@@ -1,5 +1,8 @@
 // The words and comments of a text, one after another. The scan is in
 // stream/scan.rt.
+ghost use Rattle.std.specs.Prelude.{◌≤◌, length};
+ghost use Rattle.tokens.specs.Kinds.{Kind, Kind-prop};
+
 pub mod scan;
 
 // A part of the text: a number word with its number, a word of the problem
@@ -15,11 +18,13 @@ pub enum Token<'a> {
     Other(&'a [u8]),
 }
 
-// What can begin after a gap: a word, or a comment, which is a whole line.
+// A token, and the place of its first byte, counted from 0. It is of the kind
+// that its word is.
 #[derive(Clone, Copy)]
-pub enum Part {
-    Word,
-    Line,
+pub struct Placed<'a> {
+    pub place: usize,
+    pub token: Token<'a>,
+    pub ghost kind: { Kind token } by { Kind-prop token },
 }
 
 // How far a text has been cut into tokens. `early`: no word p was among them,
@@ -29,4 +34,5 @@ pub struct Tokens<'a> {
     pub(crate) text: &'a [u8],
     pub(crate) at: usize,
     pub(crate) early: bool,
+    pub ghost within: { at ≤ length text.now },
 }

@@ -9,6 +9,7 @@ use clauses::value::Value;
 use words::sets;
 
 // All its literals are false.
+#[tactic(auto, using(crate::proofs::Judged::broken_words))]
 pub fn is_broken<V: Valuation>(valuation: &V, clause: &Clause) -> bool
     ensures value { result ≡ broken (V.Valuation.values valuation.now) (signs clause.now) }
 {
@@ -27,6 +28,7 @@ pub fn is_critical<V: Valuation>(valuation: &V, clause: &Clause, literal: i32) -
 }
 
 // The clause of all literals of the variables 1 to n that are false.
+#[tactic(auto, using(crate::proofs::Judged::bar_words))]
 pub fn bar<V: Valuation>(valuation: &V, n: u32) -> Clause
     ensures value { signs result ≡ barring n (V.Valuation.values valuation.now) }
 {

@@ -63,6 +63,7 @@ impl Valuation for Full {
         self.word
     }
 
+    #[tactic(auto, using(crate::proofs::Valued::full_falses))]
     fn falses(&self) -> u64 {
         !self.word
     }
@@ -80,10 +81,12 @@ impl Valuation for Partial {
 
     ghost beyond = { Prim.search rules };
 
+    #[tactic(auto, using(crate::proofs::Valued::partial_trues))]
     fn trues(&self) -> u64 {
         self.set & self.word
     }
 
+    #[tactic(auto, using(crate::proofs::Valued::partial_falses))]
     fn falses(&self) -> u64 {
         self.set & !self.word
     }

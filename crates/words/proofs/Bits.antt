@@ -1,119 +1,69 @@
--- The laws of the bits. Each goes by the lowest bit of a number and the half that the other bits make. Assumes nothing.
-use Rattle.std.proofs.Common.{◌≡◌, ℕ, zero, suc, ◌+◌, ◌-◌, ◌*◌, ◌/◌, ◌%◌, ◌^◌, ◌<◌, ◌≤◌, min, max, Bool, true, false, not, ◌&&◌, ◌||◌, eqb, sym, refl, ap, ◌∙◌, ap₂, ⊎_elim, lt_of_lt_of_le, pow-suc, arith, pow_pos, pow_mono, shr-shr}
+-- The laws of the bits, from std's of the bit at a place. Assumes nothing.
+use Rattle.std.proofs.Common.{◌≡◌, ℕ, zero, suc, ◌-◌, ◌*◌, ◌/◌, ◌%◌, ◌^◌, ◌<◌, ◌≤◌, Bool, true, false, not, ◌&&◌, eqb, ltb, sym, refl, ap, ◌∙◌, ap₂, ⊎_elim, arith, pow-suc, w64}
 use mathlib.Core.Bool.{and-false}
-use Prim.Native.Nat.{differ}
-use native.Mathlib.Nat.{div-eq_of_lt}
-use lib.Bits.{bit_and, bit_or, bit_xor, and_step, or_step, xor_step}
-use lib.Dec.{leb-suc-suc, leb-suc-zero, eqb-zero-suc, eqb-suc-zero, eqb-suc-suc}
-use Rattle.std.proofs.lemmas.Bool.{and_from, and_parts, both_ways, cases_lt, eq-eqb, lt-ltb, ne_eqb, not-true}
-use Rattle.std.proofs.lemmas.Bool.Decides.{nat_tests}
-use Rattle.words.specs.Bits.{width, bit, one_to, alike, later, every, in_word}
+use Rattle.std.proofs.lemmas.Nat.{one_shl}
+use lib.Bits.{bit_and, and_le_l}
+use Rattle.std.specs.Int.{bit_at}
+use Rattle.std.proofs.lemmas.Nat.Bits.{bit_at_lowest, bit_at_and, bit_at_or, bit_at_xor, bit_at_not, bit_at-zero, bit_at_above, bit_at-pow_same, bit_at-pow_other, bit_at_ones, bit_at_ones_above, bit_at-lt, bit_at-suc, same_from_bits_below}
+use Rattle.std.proofs.lemmas.Bool.{and_from, and_parts, both_ways, cases_lt, cases_eq, eq-eqb, ne_eqb, not-true}
+use Rattle.std.proofs.lemmas.Bool.Decides.{nat_tests, Decides-eqb, same_from_decides}
+use Rattle.words.specs.Bits.{width, bit, BitsWhere, one_to, alike, later, every, in_word}
 use Rattle.words.specs.Laws.{AndHasWhatBothHave, OrHasWhatEitherHas, XorHasWhatOneAloneHas, NotHasTheOthers, PowerHasOneBit, MaskHasTheLowest, ZeroHasNone, SameBitsSameWord, EqualWordsHaveLikeBits}
-
--- ---- the lowest bit and the half
 
 abbrev pub digit : Bool → ℕ
 digit true = 1
 digit false = 0
 
-pub bit_low : (n : ℕ) → n % 2 ≡ digit (bit 0 n)
+-- a bit as std has it
+pub bit_digit : (k n : ℕ) → bit_at n k ≡ digit (bit k n)
 unfolding bit
-bit_low n = grind arith
-
-pub bit_half : (k n : ℕ) → bit (suc k) n ≡ bit k (n / 2)
-unfolding bit
-bit_half k n =
-    let e : suc k ≡ 1 + k = omega arith in
-    ap (λ (q : ℕ). eqb (q % 2) 1) (ap (λ (j : ℕ). n / 2 ^ j) e ∙ sym (shr-shr n 1 k))
-
-pub half_lt : (w n : ℕ) → n < 2 ^ suc w → n / 2 < 2 ^ w
-half_lt w n h = let p = pow-suc 2 w in omega arith
-
-bit-first : (n m : ℕ) (p : Bool) → n ≡ m * 2 + digit p → bit 0 n ≡ p
-unfolding bit
-bit-first n m true e = eq-eqb (n / 1 % 2) 1 (omega arith)
-bit-first n m false e = ne_eqb (n / 1 % 2) 1 (λ one. omega arith)
-
-bit_next : (k n m : ℕ) (p : Bool) → n ≡ m * 2 + digit p → bit (suc k) n ≡ bit k m
-bit_next k n m p e = let h : n / 2 ≡ m = grind arith in bit_half k n ∙ ap (bit k) h
-
--- ---- an operation that goes digit by digit
-
-module _ (op f : ℕ → ℕ → ℕ) (g : Bool → Bool → Bool)
-    (step : (a b : ℕ) → op a b ≡ op (a / 2) (b / 2) * 2 + f (a % 2) (b % 2))
-    (both : f 1 1 ≡ digit (g true true)) (left : f 1 0 ≡ digit (g true false))
-    (right : f 0 1 ≡ digit (g false true)) (none : f 0 0 ≡ digit (g false false)) where
-  table : (p q : Bool) → f (digit p) (digit q) ≡ digit (g p q)
-  table true true = both
-  table true false = left
-  table false true = right
-  table false false = none
-
-  built : (a b : ℕ) → op a b ≡ op (a / 2) (b / 2) * 2 + digit (g (bit 0 a) (bit 0 b))
-  built a b = step a b ∙ ap (◌+◌ (op (a / 2) (b / 2) * 2)) (ap₂ f (bit_low a) (bit_low b) ∙ table (bit 0 a) (bit 0 b))
-
-  bit_op : (k a b : ℕ) → bit k (op a b) ≡ g (bit k a) (bit k b)
-  bit_op zero a b = bit-first _ _ _ (built a b)
-  bit_op (suc k) a b = bit_next k _ _ _ (built a b) ∙ bit_op k (a / 2) (b / 2) ∙ sym (ap₂ g (bit_half k a) (bit_half k b))
+bit_digit k n = let l = bit_at-lt n k in grind arith
 
 pub bit-and : AndHasWhatBothHave
-bit-and = bit_op bit_and min ◌&&◌ and_step refl refl refl refl
+unfolding bit
+bit-and k a b = let x = bit_at-lt a k in let y = bit_at-lt b k in rw (bit_at_and a b k) (grind (arith, nat_tests))
 
 pub bit-or : OrHasWhatEitherHas
-bit-or = bit_op bit_or max ◌||◌ or_step refl refl refl refl
+unfolding bit
+bit-or k a b = let x = bit_at-lt a k in let y = bit_at-lt b k in rw (bit_at_or a b k) (grind (arith, nat_tests))
 
 pub bit-xor : XorHasWhatOneAloneHas
-bit-xor = bit_op bit_xor differ (λ p q. (p && not q) || (not p && q)) xor_step refl refl refl refl
-
--- ---- complements, powers and masks
-
-not_built : (w a : ℕ) → a < 2 ^ suc w → 2 ^ suc w - 1 - a ≡ (2 ^ w - 1 - a / 2) * 2 + digit (not (bit 0 a))
-not_built w a l = let p = pow-suc 2 w in let d = bit_low a in grind arith
-
-not_below : (w k a : ℕ) → k < w → a < 2 ^ w → bit k (2 ^ w - 1 - a) ≡ not (bit k a)
-not_below zero k a h l = absurd (omega arith)
-not_below (suc w) zero a h l = bit-first _ _ _ (not_built w a l)
-not_below (suc w) (suc k) a h l = bit_next k _ _ _ (not_built w a l) ∙ not_below w k (a / 2) (omega arith) (half_lt w a l) ∙ ap not (sym (bit_half k a))
+unfolding bit
+bit-xor k a b = let x = bit_at-lt a k in let y = bit_at-lt b k in rw (bit_at_xor a b k) (grind (arith, nat_tests))
 
 pub bit_not : NotHasTheOthers
-bit_not = not_below width
+unfolding bit
+bit_not k a h small = let x = bit_at-lt a k in rw (bit_at_not w64 a k small h) (grind (arith, nat_tests))
 
 pub bit-zero : (k : ℕ) → bit k 0 ≡ false
-bit-zero zero = bit-first 0 0 false refl
-bit-zero (suc k) = bit_next k 0 0 false refl ∙ bit-zero k
+unfolding bit
+bit-zero k = rw (bit_at-zero k) refl
 
 pub bit_past : (k a : ℕ) → a < 2 ^ width → width ≤ k → bit k a ≡ false
 unfolding bit
-bit_past k a small past =
-    let none : a / 2 ^ k ≡ 0 = div-eq_of_lt (lt_of_lt_of_le small (pow_mono past)) in
-    ne_eqb (a / 2 ^ k % 2) 1 (λ one. omega arith)
+bit_past k a small past = rw (bit_at_above a width k small past) refl
 
 pub bit_power : PowerHasOneBit
-bit_power zero zero = bit-first 1 0 true refl
-bit_power zero (suc j) = bit-first _ (2 ^ j) false (omega (arith, pow-suc 2 j)) ∙ sym (eqb-zero-suc j)
-bit_power (suc k) zero = bit_next k 1 0 true refl ∙ bit-zero k ∙ sym (eqb-suc-zero k)
-bit_power (suc k) (suc j) = bit_next k _ (2 ^ j) false (omega (arith, pow-suc 2 j)) ∙ bit_power k j ∙ sym (eqb-suc-suc k j)
-
-mask_built : (n : ℕ) → 2 ^ suc n - 1 ≡ (2 ^ n - 1) * 2 + 1
-mask_built n = omega (arith, pow-suc 2 n, pow_pos n)
+unfolding bit
+bit_power k j =
+    ⊎_elim (λ e. ap (λ (i : ℕ). eqb (bit_at (2 ^ i) k) 1) (sym e) ∙ rw (bit_at-pow_same k) (sym (eq-eqb k j e))) (λ n. rw (bit_at-pow_other j k n) (sym (ne_eqb k j n))) (cases_eq k j)
 
 pub bit_mask : MaskHasTheLowest
-bit_mask k zero = bit-zero k ∙ sym (leb-suc-zero k)
-bit_mask zero (suc n) = bit-first _ _ true (mask_built n) ∙ sym (lt-ltb 0 (suc n) (omega arith))
-bit_mask (suc k) (suc n) = bit_next k _ _ true (mask_built n) ∙ bit_mask k n ∙ sym (leb-suc-suc (suc k) n)
-
--- ---- a word is its bits
-
-same_below : (w a b : ℕ) → a < 2 ^ w → b < 2 ^ w → ((k : ℕ) → k < w → bit k a ≡ bit k b) → a ≡ b
-same_below zero a b la lb same = omega arith
-same_below (suc w) a b la lb same =
-    let low : a % 2 ≡ b % 2 = bit_low a ∙ ap digit (same 0 (omega arith)) ∙ sym (bit_low b) in
-    let rest : (k : ℕ) → k < w → bit k (a / 2) ≡ bit k (b / 2) = λ k h. sym (bit_half k a) ∙ same (suc k) (omega arith) ∙ bit_half k b in
-    let half = same_below w (a / 2) (b / 2) (half_lt w a la) (half_lt w b lb) rest in
-    omega arith
+unfolding bit
+bit_mask k n = ⊎_elim (λ h. rw (bit_at_ones n k h) (grind (arith, nat_tests))) (λ h. rw (bit_at_ones_above n k h) (grind (arith, nat_tests))) (cases_lt k n)
 
 pub same_bits : SameBitsSameWord
-same_bits = same_below width
+same_bits a b la lb same = same_from_bits_below width a b la lb (λ k h. bit_digit k a ∙ ap digit (same k h) ∙ sym (bit_digit k b))
+
+pub bit_low : (n : ℕ) → n % 2 ≡ digit (bit 0 n)
+bit_low n = sym (bit_at_lowest n) ∙ bit_digit 0 n
+
+pub bit_half : (k n : ℕ) → bit (suc k) n ≡ bit k (n / 2)
+unfolding bit
+bit_half k n = ap (λ (q : ℕ). eqb q 1) (bit_at-suc n k)
+
+pub half_lt : (w n : ℕ) → n < 2 ^ suc w → n / 2 < 2 ^ w
+half_lt w n h = let p = pow-suc 2 w in omega arith
 
 -- ---- every place
 
@@ -130,15 +80,15 @@ pub every_from : (w : ℕ) (f : ℕ → Bool) → ((k : ℕ) → k < w → f k �
 every_from zero f at = refl
 every_from (suc w) f at = and_from (f 0) (every w (later f)) (at 0 (omega arith)) (every_from w (later f) (λ k h. at (suc k) (omega arith)))
 
-zero_below : (w a : ℕ) → a < 2 ^ w → eqb a 0 ≡ every w (λ k. not (bit k a))
-zero_below w a small = go _ refl
-  where
-    go : (b : Bool) → every w (λ k. not (bit k a)) ≡ b → eqb a 0 ≡ b
-    go true e = eq-eqb a 0 (same_below w a 0 small (pow_pos w) (λ k h. not-true (bit k a) (every-at w (λ j. not (bit j a)) e k h) ∙ sym (bit-zero k)))
-    go false e = ne_eqb a 0 (λ z. both_ways _ e (every_from w (λ j. not (bit j a)) (λ k h. ap not (ap (bit k) z ∙ bit-zero k))))
+-- two words are the same where a test at each place says so
+same_by : (a b : ℕ) (f : ℕ → Bool) → a < 2 ^ width → b < 2 ^ width → ((k : ℕ) → f k ≡ true → bit k a ≡ bit k b)
+    → (a ≡ b → (k : ℕ) → f k ≡ true) → eqb a b ≡ every width f
+same_by a b f la lb to from =
+    same_from_decides _ _ (Decides-eqb a b) (λ e. same_bits a b la lb (λ k h. to k (every-at width f e k h)), λ e. every_from width f (λ k _. from e k))
 
 pub zero_bits : ZeroHasNone
-zero_bits = zero_below width
+zero_bits a small =
+    same_by a 0 (λ k. not (bit k a)) small (omega arith) (λ k e. not-true (bit k a) e ∙ sym (bit-zero k)) (λ z k. ap not (ap (bit k) z ∙ bit-zero k))
 
 -- ---- what other crates compare
 
@@ -172,8 +122,39 @@ alike_self true = refl
 alike_self false = refl
 
 pub equal_bits : EqualWordsHaveLikeBits
-equal_bits a b la lb = go _ refl
+equal_bits a b la lb =
+    same_by a b (λ k. alike (bit k a) (bit k b)) la lb (λ k. alike_same (bit k a) (bit k b)) (λ z k. ap (λ (x : ℕ). alike (bit k a) (bit k x)) (sym z) ∙ alike_self (bit k a))
+
+-- ---- what the code computes
+
+pub one_word : (k v : ℕ) → 0 < v → v ≤ width → bit k (1 * 2 ^ (v - 1) % 2 ^ width) ≡ eqb (suc k) v
+one_word k v some small = rw (one_shl (v - 1) width (omega arith), bit_power k (v - 1)) (grind (arith, nat_tests))
+
+pub ruleset one_words = (one_word, bit-zero, nat_tests)
+
+pub mask_word : (k n : ℕ) → n < width → bit k (1 * 2 ^ n % 2 ^ width - 1) ≡ ltb k n
+mask_word k n small = rw (one_shl n width small) (bit_mask k n)
+
+pub whole_word : (k : ℕ) → bit k (2 ^ width - 1) ≡ ltb k width
+whole_word k = bit_mask k width
+
+pub ruleset mask_words = (mask_word, whole_word, nat_tests)
+
+-- a word has a variable if it has a bit in common with the variable's word
+pub common_bit : (a one v : ℕ) → a < 2 ^ width → BitsWhere (λ k. eqb (suc k) v) one → not (eqb (bit_and a one) 0) ≡ in_word v a
+common_bit a one v small at = go (in_word v a) refl
   where
-    go : (r : Bool) → every width (λ k. alike (bit k a) (bit k b)) ≡ r → eqb a b ≡ r
-    go true e = eq-eqb a b (same_bits a b la lb (λ k h. alike_same (bit k a) (bit k b) (every-at width (λ j. alike (bit j a) (bit j b)) e k h)))
-    go false e = ne_eqb a b (λ z. both_ways _ e (every_from width (λ j. alike (bit j a) (bit j b)) (λ k _. ap (λ (x : ℕ). alike (bit k a) (bit k x)) (sym z) ∙ alike_self (bit k a))))
+    apart : in_word v a ≡ false → (k : ℕ) → k < width → (bit k a && bit k one) ≡ false
+    apart e k h = let here = at k h in grind (arith, nat_tests)
+
+    go : (b : Bool) → in_word v a ≡ b → not (eqb (bit_and a one) 0) ≡ b
+    go true e =
+        let parts = and_parts (one_to width v) (bit (v - 1) a) e in
+        let ranged : one_to width v ≡ true = parts.0 in
+        let place : (v - 1 < width) × (suc (v - 1) ≡ v) = grind (arith, nat_tests) in
+        let here = at (v - 1) place.0 ∙ eq-eqb (suc (v - 1)) v place.1 in
+        let on = bit-and (v - 1) a one ∙ and_from (bit (v - 1) a) (bit (v - 1) one) parts.1 here in
+        ap not (ne_eqb (bit_and a one) 0 (λ none. both_ways (bit (v - 1) (bit_and a one)) (ap (bit (v - 1)) none ∙ bit-zero (v - 1)) on))
+    go false e =
+        let low : bit_and a one < 2 ^ width = omega (arith, and_le_l a one) in
+        ap not (eq-eqb (bit_and a one) 0 (same_bits (bit_and a one) 0 low (omega arith) (λ k h. bit-and k a one ∙ apart e k h ∙ sym (bit-zero k))))

@@ -2,7 +2,7 @@
 // a contract names it, so the laws stand on a function, which does nothing.
 ghost use Rattle.words.specs.Laws.{AndHasWhatBothHave, OrHasWhatEitherHas, XorHasWhatOneAloneHas, NotHasTheOthers, PowerHasOneBit, MaskHasTheLowest, OnesCountsTheVariables, ZeroHasNone, SameBitsSameWord, EqualWordsHaveLikeBits};
 
-pub fn laws_hold() -> u8
+pub fn laws_hold()
     ensures and { AndHasWhatBothHave }
     ensures or { OrHasWhatEitherHas }
     ensures xor { XorHasWhatOneAloneHas }
@@ -13,6 +13,4 @@ pub fn laws_hold() -> u8
     ensures zero { ZeroHasNone }
     ensures same { SameBitsSameWord }
     ensures equal { EqualWordsHaveLikeBits }
-{
-    0
-}
+{}

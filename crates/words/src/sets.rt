@@ -6,6 +6,7 @@ ghost use Rattle.words.specs.Bits.{width, BitsWhere, variables, in_word, Named, 
 pub const WIDTH: u32 = 64;
 
 // The word of variable v alone; no variable where v is 0 or above 64.
+#[tactic(auto, using(crate::proofs::Bits::one_words))]
 pub fn one(v: u32) -> u64
     ensures bits { BitsWhere (λ k. nat_eq (suc k) v) result }
 {
@@ -16,6 +17,7 @@ pub fn one(v: u32) -> u64
 }
 
 // The word of the variables 1 to n; of all 64 where n is above that.
+#[tactic(auto, using(crate::proofs::Bits::mask_words))]
 pub fn mask(n: u32) -> u64
     ensures bits { BitsWhere (λ k. nat_lt k n) result }
 {
@@ -26,6 +28,7 @@ pub fn mask(n: u32) -> u64
 }
 
 // Whether v is a variable of the word.
+#[tactic(auto, using(crate::proofs::Bits::common_bit))]
 pub fn has(word: u64, v: u32) -> bool
     ensures value { result ≡ in_word v word }
 {
@@ -33,6 +36,7 @@ pub fn has(word: u64, v: u32) -> bool
 }
 
 // How many variables the word has.
+#[tactic(auto, using(crate::proofs::Variables::ones_variables))]
 pub fn count(word: u64) -> u32
     ensures value { result ≡ length (variables word) }
     ensures bound { result ≤ width }
@@ -41,20 +45,19 @@ pub fn count(word: u64) -> u32
 }
 
 // The lowest variable of the word.
+#[tactic(auto, using(crate::proofs::Variables::lowest_variable))]
 pub fn lowest(word: u64) -> Option<u32>
     ensures value { result ≡ first (variables word) }
     ensures named { Named result }
 {
-    if word == 0 {
-        return None;
-    }
-    Some(word.trailing_zeros() + 1)
+    (word != 0).then_some(word.trailing_zeros() + 1)
 }
 
 // The variable of a word that has just one.
+#[tactic(auto, using(crate::proofs::Variables::sole_word))]
 pub fn only(word: u64) -> Option<u32>
     ensures value { result ≡ sole (variables word) }
 {
     let v = lowest(word)?;
-    if word == one(v) { Some(v) } else { None }
+    (word == one(v)).then_some(v)
 }

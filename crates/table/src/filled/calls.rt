@@ -19,11 +19,7 @@ impl<'a, T: Copy> Filled<'a, T> {
     pub fn as_slice(&self) -> &[T]
         ensures value { result.now ≡ held self.now }
     {
-        if self.len <= self.places.len() {
-            &self.places[0..self.len]
-        } else {
-            &*self.places
-        }
+        &self.places[..self.len]
     }
 
     // How many entries there are.
@@ -37,19 +33,14 @@ impl<'a, T: Copy> Filled<'a, T> {
     pub fn room(&self) -> usize
         ensures value { result ≡ free self.now }
     {
-        self.places.len().saturating_sub(self.len)
+        self.places.len() - self.len
     }
 
     // The entry at index `i`, if there is one.
     pub fn get(&self, i: usize) -> Option<T>
         ensures finds { StandsAt (held self.now) i result }
     {
-        let entries = self.as_slice();
-        if i < entries.len() {
-            Some(entries[i])
-        } else {
-            None
-        }
+        self.as_slice().get(i).copied()
     }
 
     // Puts `x` after the last entry and tells its index; refused where no

@@ -1,14 +1,26 @@
-// A refusal's number and place, and how a text's fault becomes a reader's.
+// What each refusal tells, and how a text's and a book's fault become a
+// reader's.
 ghost use Rattle.std.specs.Prelude.{◌≡◌};
-ghost use Rattle.text.specs.declared.faults.ReadFault.TheVariants.{Text};
-ghost use Rattle.text.specs.Refusals.{text_refusal, read_refusal, number_of, place_of};
+ghost use Rattle.text.specs.declared.faults.ReadFault.TheVariants.{Text, Book};
+ghost use Rattle.text.specs.Refusals.{Refusal, text_refusal, book_refusal, read_refusal, number_of, place_of};
 
 use super::{BookFault, ReadFault, TextFault};
 
-impl TextFault {
-    pub fn number(&self) -> u8
-        ensures value { result ≡ number_of (text_refusal self.now) }
-    {
+// What a refusal tells: its number, and a byte place counted from 0.
+pub trait Telling {
+    ghost refusal: { Self → Refusal };
+
+    fn number(&self) -> u8
+        ensures value { result ≡ number_of (refusal self.now) };
+
+    fn place(&self) -> usize
+        ensures value { result ≡ place_of (refusal self.now) };
+}
+
+impl Telling for TextFault {
+    ghost refusal = { text_refusal };
+
+    fn number(&self) -> u8 {
         match self {
             TextFault::TooLong => 9,
             TextFault::NotProblemLine { .. } => 10,
@@ -21,38 +33,50 @@ impl TextFault {
         }
     }
 
-    pub fn place(&self) -> usize
-        ensures value { result ≡ place_of (text_refusal self.now) }
-    {
+    fn place(&self) -> usize {
         match self {
             TextFault::TooLong => 0,
-            TextFault::NotProblemLine { place } => *place,
-            TextFault::TooLarge { place } => *place,
-            TextFault::NotNumber { place } => *place,
-            TextFault::AboveVariables { place } => *place,
-            TextFault::EndsInsideClause { place } => *place,
-            TextFault::WordAfterClauses { place } => *place,
-            TextFault::ClausesMissing { place } => *place,
+            TextFault::NotProblemLine { place }
+            | TextFault::TooLarge { place }
+            | TextFault::NotNumber { place }
+            | TextFault::AboveVariables { place }
+            | TextFault::EndsInsideClause { place }
+            | TextFault::WordAfterClauses { place }
+            | TextFault::ClausesMissing { place } => *place,
         }
     }
 }
 
-impl ReadFault {
-    pub fn number(&self) -> u8
-        ensures value { result ≡ number_of (read_refusal self.now) }
-    {
+impl Telling for BookFault {
+    ghost refusal = { book_refusal };
+
+    fn number(&self) -> u8 {
         match self {
-            ReadFault::Text(fault) => fault.number(),
-            ReadFault::Book(BookFault::TooManyLiterals { .. }) => 6,
+            BookFault::TooManyLiterals { .. } => 6,
         }
     }
 
-    pub fn place(&self) -> usize
-        ensures value { result ≡ place_of (read_refusal self.now) }
-    {
+    fn place(&self) -> usize {
+        match self {
+            BookFault::TooManyLiterals { place } => *place,
+        }
+    }
+}
+
+impl Telling for ReadFault {
+    ghost refusal = { read_refusal };
+
+    fn number(&self) -> u8 {
+        match self {
+            ReadFault::Text(fault) => fault.number(),
+            ReadFault::Book(fault) => fault.number(),
+        }
+    }
+
+    fn place(&self) -> usize {
         match self {
             ReadFault::Text(fault) => fault.place(),
-            ReadFault::Book(BookFault::TooManyLiterals { place }) => *place,
+            ReadFault::Book(fault) => fault.place(),
         }
     }
 }
@@ -62,5 +86,13 @@ impl From<TextFault> for ReadFault {
 
     fn from(fault: TextFault) -> ReadFault {
         ReadFault::Text(fault)
+    }
+}
+
+impl From<BookFault> for ReadFault {
+    ghost from_gives = { λ f r. r ≡ Book f };
+
+    fn from(fault: BookFault) -> ReadFault {
+        ReadFault::Book(fault)
     }
 }

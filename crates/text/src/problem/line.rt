@@ -1,40 +1,31 @@
 // Reading the problem line, word by word.
 ghost use Rattle.std.specs.Prelude.{◌≡◌, Some};
 ghost use Rattle.text.specs.Problem.{within, expect_piece, head_of};
-ghost use Rattle.tokens.specs.Scanning.{Kind, piece};
+ghost use Rattle.tokens.specs.Scanning.{piece_at};
 
 use super::{Expected, Progress};
 use crate::faults::TextFault;
 use crate::limits::{MOST_BYTES, MOST_CLAUSES, MOST_VARIABLES};
-use tokens::stream::{Token, Tokens};
+use tokens::stream::{Placed, Token, Tokens};
 
 // A number without minus sign, at most `most`.
 fn size(number: i32, most: u32, place: usize) -> Result<u32, TextFault>
     ensures value { result ≡ within most place (Some number) }
 {
-    if number < 0 {
-        return Err(TextFault::NotProblemLine { place });
-    }
-    let n = number.unsigned_abs();
-    if n > most {
-        Err(TextFault::TooLarge { place })
-    } else {
-        Ok(n)
+    match u32::try_from(number) {
+        Err(_) => Err(TextFault::NotProblemLine { place }),
+        Ok(n) if n > most => Err(TextFault::TooLarge { place }),
+        Ok(n) => Ok(n),
     }
 }
 
 impl Expected {
     // Takes a token; a comment is passed over. Up to `limit` variables may be.
-    pub(crate) fn take(
-        self,
-        limit: u32,
-        place: usize,
-        token: Token<'_>,
-    ) -> Result<Progress, TextFault>
-        requires { Kind token }
-        ensures value { result ≡ expect_piece limit self (piece place token.entry) }
+    pub(crate) fn take(self, limit: u32, piece: Placed<'_>) -> Result<Progress, TextFault>
+        ensures value { result ≡ expect_piece limit self (piece_at piece.entry) }
     {
-        match (self, token) {
+        let place = piece.place;
+        match (self, piece.token) {
             (e, Token::Comment(_)) => Ok(Progress::Expecting(e)),
             (Expected::ProblemWord, Token::Problem(_)) => Ok(Progress::Expecting(
                 Expected::FormatWord,
@@ -62,10 +53,9 @@ pub fn head(text: &[u8]) -> Result<(u32, u32), TextFault>
     if text.len() > MOST_BYTES {
         return Err(TextFault::TooLong);
     }
-    let mut tokens = Tokens::new(text);
     let mut expected = Expected::ProblemWord;
-    while let Some((place, token)) = tokens.next_token() {
-        match expected.take(MOST_VARIABLES, place, token)? {
+    for piece in Tokens::new(text) {
+        match expected.take(MOST_VARIABLES, piece)? {
             Progress::Expecting(next) => expected = next,
             Progress::Complete { variables, clauses } => return Ok((variables, clauses)),
         }

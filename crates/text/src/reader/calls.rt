@@ -1,25 +1,49 @@
 // Reading a text, clause by clause.
-ghost use Rattle.std.specs.Prelude.{◌≡◌, length};
+ghost use Rattle.std.specs.Prelude.{◌≡◌, ◌-◌, [], length, Ok};
 ghost use Rattle.table.specs.Held.{held};
-ghost use Rattle.tokens.specs.Scanning.{Kind, piece};
-ghost use Rattle.text.specs.Reading.{at_end, between, reading};
-ghost use Rattle.text.specs.Unread.{brings, problem_brings, number_brings, unread, Ended, Gave, Took, Alike};
+ghost use Rattle.tokens.specs.Scanning.{piece_at};
+ghost use Rattle.text.specs.Reading.{on, after_problem, remaining, at_end, between, reading};
+ghost use Rattle.text.specs.Unread.{brings, number_brings, unread, Ended, Gave, Took, Alike};
 
-use super::{Reader, State};
+use super::{Reader, Remaining, State};
 use crate::faults::{BookFault, ReadFault, TextFault};
 use crate::limits::{MOST_BYTES, MOST_LITERALS};
 use crate::problem::{Expected, Progress};
 use table::filled::Filled;
-use tokens::stream::{Token, Tokens};
+use tokens::stream::{Placed, Token, Tokens};
 
-// The state before the first of `left` clauses.
-fn before(variables: u32, left: u32) -> State
-    ensures value { result ≡ between variables left }
-{
-    if left == 0 {
-        State::Done
-    } else {
-        State::BetweenClauses { variables, left }
+impl Remaining {
+    // The state before the first of these clauses.
+    fn begin(self) -> State
+        ensures value { result ≡ between self.variables self.clauses }
+    {
+        if self.clauses == 0 {
+            State::Done
+        } else {
+            State::BetweenClauses(self)
+        }
+    }
+
+    // What remains after the clause that is being read.
+    fn after_one(self) -> Remaining
+        ensures value { result ≡ remaining self.variables (self.clauses - 1) }
+    {
+        Remaining {
+            variables: self.variables,
+            clauses: self.clauses.saturating_sub(1),
+        }
+    }
+}
+
+// The state after a word of the problem line.
+impl From<Progress> for State {
+    ghost from_gives = { λ p s. after_problem (Ok p) ≡ on s [] };
+
+    fn from(progress: Progress) -> State {
+        match progress {
+            Progress::Expecting(next) => State::BeforeProblem(next),
+            Progress::Complete { variables, clauses } => Remaining { variables, clauses }.begin(),
+        }
     }
 }
 
@@ -44,70 +68,49 @@ impl<'t, 'p> Reader<'t, 'p> {
         self.literals.as_slice()
     }
 
-    // A word of the problem line, which never ends a clause.
-    fn problem_word(
-        &mut self,
-        expected: Expected,
-        place: usize,
-        token: Token<'_>,
-    ) -> Result<bool, ReadFault>
-        requires { Kind token }
+    // A number of the clauses, at a place, where the literals that stand before
+    // it in its clause are held.
+    fn number(&mut self, left: Remaining, place: usize, x: i32) -> Result<Option<usize>, ReadFault>
         ensures alike { Alike self.old self.new }
-        ensures took { Took (problem_brings self.old expected (piece place token.entry)) place result self.old self.new }
-    {
-        self.state = match expected.take(self.limit, place, token)? {
-            Progress::Expecting(next) => State::BeforeProblem(next),
-            Progress::Complete { variables, clauses } => before(variables, clauses),
-        };
-        Ok(false)
-    }
-
-    // A number of the clauses, where the literals that stand before it in its
-    // clause are held. True: it ended the clause.
-    fn number(&mut self, variables: u32, left: u32, place: usize, x: i32) -> Result<bool, ReadFault>
-        ensures alike { Alike self.old self.new }
-        ensures took { Took (number_brings self.old variables left place x) place result self.old self.new }
+        ensures took { Took (number_brings self.old left place x) result self.old self.new }
     {
         let size = x.unsigned_abs();
         if size == 0 {
-            self.state = before(variables, left.saturating_sub(1));
-            return Ok(true);
+            self.state = left.after_one().begin();
+            return Ok(Some(place));
         }
-        if size > variables {
-            return Err(ReadFault::Text(TextFault::AboveVariables { place }));
+        if size > left.variables {
+            return Err(TextFault::AboveVariables { place }.into());
         }
-        match self.literals.push(x) {
-            Ok(_) => {
-                self.state = State::InsideClause { variables, left };
-                Ok(false)
-            }
-            Err(_) => Err(ReadFault::Book(BookFault::TooManyLiterals { place })),
+        if self.literals.push(x).is_err() {
+            return Err(BookFault::TooManyLiterals { place }.into());
         }
+        self.state = State::InsideClause(left);
+        Ok(None)
     }
 
-    // Takes a token. True: it ended a clause.
-    fn take(&mut self, place: usize, token: Token<'_>) -> Result<bool, ReadFault>
-        requires { Kind token }
+    // Takes a token. Some: it ended a clause, at this place. What a kind of token
+    // means in a state stands in one table, since states outlive a call.
+    fn take(&mut self, piece: Placed<'_>) -> Result<Option<usize>, ReadFault>
         ensures alike { Alike self.old self.new }
-        ensures took { Took (brings self.old (piece place token.entry)) place result self.old self.new }
+        ensures took { Took (brings self.old (piece_at piece.entry)) result self.old self.new }
     {
+        let Placed { place, token } = piece;
         match (self.state, token) {
-            (_, Token::Comment(_)) => Ok(false),
-            (State::BeforeProblem(e), Token::Number(..)) => self.problem_word(e, place, token),
-            (State::BeforeProblem(e), Token::Problem(_)) => self.problem_word(e, place, token),
-            (State::BeforeProblem(e), Token::Format(_)) => self.problem_word(e, place, token),
-            (State::BeforeProblem(e), Token::Other(_)) => self.problem_word(e, place, token),
-            (State::BetweenClauses { variables, left }, Token::Number(_, x)) => {
+            (State::BeforeProblem(expected), _) => {
+                self.state = expected.take(self.limit, piece)?.into();
+                Ok(None)
+            }
+            (_, Token::Comment(_)) => Ok(None),
+            (State::BetweenClauses(left), Token::Number(_, x)) => {
                 self.literals.clear();
-                self.number(variables, left, place, x)
+                self.number(left, place, x)
             }
-            (State::InsideClause { variables, left }, Token::Number(_, x)) => {
-                self.number(variables, left, place, x)
+            (State::InsideClause(left), Token::Number(_, x)) => { self.number(left, place, x) }
+            (State::BetweenClauses(_) | State::InsideClause(_), _) => {
+                Err(TextFault::NotNumber { place }.into())
             }
-            (State::BetweenClauses { .. } | State::InsideClause { .. }, _) => Err(ReadFault::Text(
-                TextFault::NotNumber { place },
-            )),
-            (State::Done, _) => Err(ReadFault::Text(TextFault::WordAfterClauses { place })),
+            (State::Done, _) => Err(TextFault::WordAfterClauses { place }.into()),
         }
     }
 
@@ -116,16 +119,13 @@ impl<'t, 'p> Reader<'t, 'p> {
         ensures value { Ended (at_end (length self.now.tokens.text.now) self.now.state) result }
     {
         let place = self.tokens.text_len();
-        match self.state {
-            State::BeforeProblem(_) => Err(ReadFault::Text(TextFault::NotProblemLine { place })),
-            State::BetweenClauses { .. } => {
-                Err(ReadFault::Text(TextFault::ClausesMissing { place }))
-            }
-            State::InsideClause { .. } => {
-                Err(ReadFault::Text(TextFault::EndsInsideClause { place }))
-            }
-            State::Done => Ok(None),
-        }
+        let fault = match self.state {
+            State::BeforeProblem(_) => TextFault::NotProblemLine { place },
+            State::BetweenClauses(_) => TextFault::ClausesMissing { place },
+            State::InsideClause(_) => TextFault::EndsInsideClause { place },
+            State::Done => return Ok(None),
+        };
+        Err(fault.into())
     }
 
     // Reads on to the end of the next clause, and tells the place of its
@@ -136,13 +136,13 @@ impl<'t, 'p> Reader<'t, 'p> {
     {
         let mut ahead = self.tokens;
         if ahead.text_len() > MOST_BYTES {
-            return Err(ReadFault::Text(TextFault::TooLong));
+            return Err(TextFault::TooLong.into());
         }
-        while let Some((place, token)) = ahead.next_token() {
-            let ended = self.take(place, token)?;
+        while let Some(piece) = ahead.next() {
+            let ended = self.take(piece)?;
             self.tokens = ahead;
-            if ended {
-                return Ok(Some(place));
+            if let Some(end) = ended {
+                return Ok(Some(end));
             }
         }
         self.finish()

@@ -1,39 +1,49 @@
 // Cutting a text into tokens, from left to right. The scan never goes back; the
 // bytes of a word are looked at again to tell its kind.
-ghost use Rattle.std.specs.Prelude.{◌≡◌, ◌<◌, ◌≤◌, length};
+ghost use Rattle.std.specs.Prelude.{◌≡◌, ◌<◌, ◌≤◌, ◌∷◌, true, false, drop, not, length, ◌==◌};
+ghost use Rattle.std.specs.Iterator.{at_most};
+ghost use Rattle.std.specs.List.{prefix_len};
 ghost use Rattle.std.specs.Str.{bytes_eq};
-ghost use Rattle.tokens.specs.Words.{parts_words, early_after, pieces};
-ghost use Rattle.tokens.specs.Scanning.{part_ends, GapEnds, here, Ends, coming, IsWord, Kind, Told};
+ghost use Rattle.tokens.specs.Kinds.{Kind};
+ghost use Rattle.tokens.specs.Words.{parts_words, ends_line, early_after, pieces};
+ghost use Rattle.tokens.specs.Scanning.{GapEnds, opens_here, coming, piece_at, IsWord, Told};
 
-use super::{Part, Token, Tokens};
+use super::{Placed, Token, Tokens};
 use crate::numbers::number;
 
 fn parts(b: u8) -> bool
     ensures value { result ≡ parts_words b }
 {
-    b == b' ' || b == b'\t' || b == b'\r' || b == b'\n'
+    matches!(b, b' ' | b'\t' | b'\r' | b'\n')
 }
 
-fn ends(part: Part, b: u8) -> bool
-    ensures value { result ≡ part_ends part b }
+// How many bytes of a gap stand here, before the first that parts no words.
+fn gap_len(bytes: &[u8]) -> usize
+    ensures value { result ≡ prefix_len parts_words bytes.now }
+    ensures bound { result ≤ length bytes.now }
 {
-    match part {
-        Part::Word => parts(b),
-        Part::Line => b == b'\n',
-    }
+    bytes.iter().take_while(|b| parts(**b)).count()
 }
 
-fn spelled(word: &[u8], name: &[u8]) -> bool
-    ensures value { result ≡ bytes_eq word.now name.now }
+// How many bytes of a word stand here.
+fn word_len(bytes: &[u8]) -> usize
+    ensures value { result ≡ prefix_len (λ b. not (parts_words b)) bytes.now }
 {
-    word == name
+    bytes.iter().take_while(|b| !parts(**b)).count()
+}
+
+// How many bytes of a line stand here, without its LF.
+fn line_len(bytes: &[u8]) -> usize
+    ensures value { result ≡ prefix_len (λ b. not (ends_line b)) bytes.now }
+{
+    bytes.iter().take_while(|b| **b != b'\n').count()
 }
 
 // Whether comments may still come after a word.
 fn early_after(early: bool, word: &[u8]) -> bool
     ensures value { result ≡ early_after early word.now }
 {
-    early && !spelled(word, b"p")
+    early && word != b"p".as_slice()
 }
 
 // The token that a word is.
@@ -41,20 +51,19 @@ fn classify<'a>(word: &'a [u8]) -> Token<'a>
     ensures bytes { IsWord result word.now }
     ensures kind { Kind result }
 {
-    if spelled(word, b"p") {
-        return Token::Problem(word);
-    }
-    if spelled(word, b"cnf") {
-        return Token::Format(word);
-    }
-    match number(word) {
-        Some(x) => Token::Number(word, x),
-        None => Token::Other(word),
+    match word {
+        b"p" => Token::Problem(word),
+        b"cnf" => Token::Format(word),
+        _ => match number(word) {
+            Some(x) => Token::Number(word, x),
+            None => Token::Other(word),
+        },
     }
 }
 
 impl<'a> Tokens<'a> {
     // Nothing of the text is read yet.
+    #[tactic(auto, using(crate::proofs::Lines::pieces_scanned))]
     pub fn new(text: &'a [u8]) -> Tokens<'a>
         ensures text { result.text.now ≡ text.now }
         ensures coming { coming result ≡ pieces text.now }
@@ -73,73 +82,86 @@ impl<'a> Tokens<'a> {
         self.text.len()
     }
 
+    // The bytes from here on.
+    fn rest(&self) -> &'a [u8]
+        ensures value { result.now ≡ drop self.now.at self.now.text.now }
+    {
+        let text = self.text;
+        &text[self.at..]
+    }
+
     // Goes on to the next word or comment, or to the text's end.
+    #[tactic(auto, using(crate::proofs::Gaps::gap_passed, crate::proofs::Gaps::gap_stops, crate::proofs::Gaps::none_left))]
     fn skip_gap(&mut self)
         ensures text { self.new.text ≡ self.old.text }
-        ensures early { self.new.early ≡ self.old.early }
         ensures same { coming self.new ≡ coming self.old }
         ensures stops { GapEnds self.new }
     {
-        let text = self.text;
-        let mut n = self.at;
-        while n < text.len() && parts(text[n]) {
-            n += 1;
-        }
-        self.at = n;
+        self.at += gap_len(self.rest());
     }
 
-    // Whether a word or a comment begins here.
-    fn opening(&self) -> Part
-        requires { self.now.at < length self.now.text.now }
-        ensures value { result ≡ here self.now }
+    // Whether a comment begins here.
+    fn opens_comment(&self) -> bool
+        ensures value { result ≡ opens_here self.now }
     {
         let text = self.text;
         let at = self.at;
-        if self.early && (at == 0 || text[at - 1] == b'\n') && text[at] == b'c' {
-            Part::Line
-        } else {
-            Part::Word
-        }
+        self.early && (at == 0 || text[at - 1] == b'\n') && text.get(at) == Some(&b'c')
     }
 
-    // Where the word or the comment that begins here ends.
-    fn part_end(&self, part: Part) -> usize
-        requires within { self.now.at < length self.now.text.now }
-        requires begins { GapEnds self.now }
-        requires part { part ≡ here self.now }
-        ensures low_bound { self.now.at ≤ result }
-        ensures high_bound { result ≤ length self.now.text.now }
-        ensures rest { Ends part self.now result }
+    // The comment that begins here.
+    #[tactic(auto, using(crate::proofs::Gaps::within, crate::proofs::Gaps::first_comment))]
+    fn comment(&mut self) -> Placed<'a>
+        requires within { self.old.at < length self.old.text.now }
+        requires begins { GapEnds self.old }
+        requires opens { opens_here self.old ≡ true }
+        ensures text { self.new.text ≡ self.old.text }
+        ensures first { coming self.old ≡ piece_at result ∷ coming self.new }
     {
-        let text = self.text;
-        let mut n = self.at;
-        while n < text.len() && !ends(part, text[n]) {
-            n += 1;
-        }
-        n
+        let place = self.at;
+        let rest = self.rest();
+        let line = &rest[..line_len(rest)];
+        self.at += line.len();
+        let token = Token::Comment(line);
+        Placed { place, token }
     }
 
-    // The next word or comment, with its place; none at the end of the text.
-    pub fn next_token(&mut self) -> Option<(usize, Token<'a>)>
-        ensures text { self.new.text.now ≡ self.old.text.now }
-        ensures told { Told (coming self.old) result (coming self.new) }
+    // The word that begins here.
+    #[tactic(auto, using(crate::proofs::Gaps::within, crate::proofs::Gaps::first_word))]
+    fn word(&mut self) -> Placed<'a>
+        requires within { self.old.at < length self.old.text.now }
+        requires begins { GapEnds self.old }
+        requires opens { opens_here self.old ≡ false }
+        ensures text { self.new.text ≡ self.old.text }
+        ensures first { coming self.old ≡ piece_at result ∷ coming self.new }
     {
+        let place = self.at;
+        let rest = self.rest();
+        let word = &rest[..word_len(rest)];
+        self.at += word.len();
+        self.early = early_after(self.early, word);
+        let token = classify(word);
+        Placed { place, token }
+    }
+}
+
+// The words and comments that are still to come.
+impl<'a> Iterator for Tokens<'a> {
+    type Item = Placed<'a>;
+
+    ghost next_gives = { λ s r t. (t.text.now ≡ s.text.now) × Told (coming s) r (coming t) };
+
+    ghost remaining = { λ s. at_most (length (coming s)) };
+
+    fn next(&mut self) -> Option<Placed<'a>> {
         self.skip_gap();
-        let text = self.text;
-        let start = self.at;
-        if start >= text.len() {
+        if self.at == self.text.len() {
             return None;
         }
-        let part = self.opening();
-        let end = self.part_end(part);
-        let bytes = &text[start..end];
-        self.at = end;
-        match part {
-            Part::Line => Some((start, Token::Comment(bytes))),
-            Part::Word => {
-                self.early = early_after(self.early, bytes);
-                Some((start, classify(bytes)))
-            }
+        if self.opens_comment() {
+            Some(self.comment())
+        } else {
+            Some(self.word())
         }
     }
 }

@@ -6,9 +6,7 @@ use Rattle.tokens.specs.Words.{pieces}
 use Rattle.text.proofs.problem.line.head.Given as goal
 
 -- what is to come gives the answer
-abbrev pub invariant-loop-place : goal.invariant-loop-place
-invariant-loop-place l =
-    sizes 64 (length l.text) l.expected (coming l.tokens) ≡ sizes 64 (length l.text) ProblemWord (pieces l.text)
-
-abbrev pub decreases-loop-place : goal.decreases-loop-place
-decreases-loop-place l = length (coming l.tokens)
+abbrev pub invariant-loop-piece : goal.invariant-loop-piece
+invariant-loop-piece l =
+    (goal.iterator-loop-piece).can_next l.piece-iterator
+    × (sizes 64 (length l.text) l.expected (coming l.piece-iterator) ≡ sizes 64 (length l.text) ProblemWord (pieces l.text))

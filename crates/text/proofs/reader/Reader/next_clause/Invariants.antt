@@ -5,9 +5,9 @@ use Rattle.tokens.specs.Scanning.{coming}
 use Rattle.text.proofs.reader.Reader.next_clause.Given as goal
 
 -- no clause has ended yet
-abbrev pub invariant-loop-place : goal.invariant-loop-place
-invariant-loop-place l =
+abbrev pub invariant-loop-piece : goal.invariant-loop-piece
+invariant-loop-piece l =
     (l.ahead ≡ l.self.tokens) × (unread l.self ≡ unread l.initial.self) × (length l.ahead.text.now ≤ most_bytes)
 
-abbrev pub decreases-loop-place : goal.decreases-loop-place
-decreases-loop-place l = length (coming l.ahead)
+abbrev pub decreases-loop-piece : goal.decreases-loop-piece
+decreases-loop-piece l = length (coming l.ahead)
