@@ -10,7 +10,8 @@ ghost use Rattle.clauses.specs.Words.{signs};
 use words::sets;
 
 // A set of literals over 64 variables: bit v - 1 of `pos` for v, of `neg`
-// for -v.
+// for -v. Contracts see it by `signs`, a function of the two words, and not by
+// a model, since other crates read and write them.
 #[derive(Clone, Copy, Debug, PartialEq)]
 pub struct Clause {
     pub pos: u64,
@@ -79,6 +80,7 @@ impl Clause {
     // Its first literal by rising variable, and the clause of the others. The
     // cast is exact, since a variable is at most 64; a `try_from` would add a
     // branch that is never taken.
+    #[tactic(auto, using(crate::proofs::Splits::split_none))]
     pub fn split_first(&self) -> Option<(i32, Clause)>
         ensures splits { Splits (literals (signs self.now)) result }
     {

@@ -12,10 +12,10 @@ use Rattle.clauses.specs.Sets.{SetOf}
 use Rattle.clauses.specs.Words.{signs}
 use Rattle.clauses.proofs.Words.{Unit, holds_plus-bit, holds_minus-bit}
 
-pub none-held : SetOf [] (signs (record { pos = 0; neg = 0 }))
-none-held (pos zero) = refl
-none-held (pos (suc k)) = holds_plus-bit (record { pos = 0; neg = 0 }) k (omega arith) ∙ bit-zero k
-none-held (negsuc k) = holds_minus-bit (record { pos = 0; neg = 0 }) k (omega arith) ∙ bit-zero k
+pub none_held : SetOf [] (signs (record { pos = 0; neg = 0 }))
+none_held (pos zero) = refl
+none_held (pos (suc k)) = holds_plus-bit (record { pos = 0; neg = 0 }) k (omega arith) ∙ bit-zero k
+none_held (negsuc k) = holds_minus-bit (record { pos = 0; neg = 0 }) k (omega arith) ∙ bit-zero k
 
 either-plus : (s t : Sign) → holds_plus (either s t) ≡ (holds_plus s || holds_plus t)
 either-plus (sign p q) (sign r u) = refl

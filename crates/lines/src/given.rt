@@ -13,6 +13,7 @@ use words::sets::WIDTH;
 pub struct NoLiteral;
 
 // The set of these literals over the variables 1 to n.
+#[tactic(auto, using(crate::proofs::Gathering::none_held))]
 fn gather(numbers: &[i32], n: u32) -> Result<Clause, NoLiteral>
     requires { n ≤ width }
     ensures gathers { Gathers n numbers.now result }

@@ -30,6 +30,7 @@ pub struct Line {
     clause: Clause,
 }
 
+// A constructor for each origin, since each has fields of its own.
 impl Line {
     pub fn given(clause: Clause) -> Line
         ensures value { result ≡ given_line clause }

@@ -13,6 +13,7 @@ use survey::{MOST_INPUT, survey};
 // Reads one byte more than is taken, so that longer input shows.
 fn run(rt: &HostRuntime) -> io::Result<()> {
     let mut text: Vec<u8> = Vec::new(rt.alloc());
+    // The cast is exact: 65,536 fits.
     rt.stdin()
         .take(MOST_INPUT as u64 + 1)
         .read_to_end(&mut text)?;

@@ -14,7 +14,8 @@ use text::reader::Reader;
 // Bytes that the program takes.
 pub const MOST_INPUT: usize = 65_536;
 
-// The number of clauses of a text that ends well.
+// The number of clauses of a text that ends well. A reader is no iterator: its
+// clause is borrowed from it, and it tells a refusal again for ever.
 #[tactic(auto, using(text::proofs::Counts::few_clauses))]
 fn count(text: &[u8], variables: u32) -> Result<u32, ReadFault>
     ensures value { result ≡ counted (reading variables text.now) }
@@ -22,7 +23,7 @@ fn count(text: &[u8], variables: u32) -> Result<u32, ReadFault>
     let mut places = [0; MOST_LITERALS];
     let mut reader = Reader::new(text, variables, &mut places);
     let mut clauses = 0;
-    while let Some(_) = reader.next_clause()? {
+    while reader.next_clause()?.is_some() {
         clauses += 1;
     }
     Ok(clauses)

@@ -5,7 +5,8 @@ use Rattle.text.specs.declared.reader.State.{State}
 use Rattle.text.specs.declared.reader.State.TheVariants.{BeforeProblem, BetweenClauses, InsideClause, Done}
 use Rattle.text.specs.Limits.{most_bytes, most_clauses, most_literals}
 use Rattle.tokens.specs.Numbers.{number_word}
-use Rattle.text.specs.Reading.{Reading, clauses_of, Step, on, gives, stops, remaining, between, step, go_on, read, reading}
+use Rattle.text.specs.Problem.{remaining}
+use Rattle.text.specs.Reading.{Reading, clauses_of, Step, on, gives, stops, between, step, go_on, read, reading}
 use Rattle.tokens.specs.Words.{Piece, word, comment, pieces}
 use Rattle.text.proofs.Steps.{problem_by, clause_by}
 

@@ -12,8 +12,8 @@ use Rattle.text.specs.declared.problem.Expected.TheVariants.{ProblemWord, Format
 use Rattle.text.specs.declared.reader.State.TheVariants.{BeforeProblem, InsideClause}
 use Rattle.text.specs.Limits.{most_clauses}
 use Rattle.tokens.specs.Numbers.{number_word}
-use Rattle.text.specs.Problem.{within, then_clauses, then_complete, expect}
-use Rattle.text.specs.Reading.{Step, on, gives, stops, remaining, between, after_problem, clause_word}
+use Rattle.text.specs.Problem.{remaining, within, then_clauses, then_complete, expect}
+use Rattle.text.specs.Reading.{Step, on, gives, stops, between, after_problem, clause_word}
 use Rattle.text.specs.Refusals.{text_refusal, read_refusal, place_of}
 
 -- a number of the problem line is at most `most`, or refused at its place

@@ -8,7 +8,8 @@ use Rattle.text.specs.declared.reader.State.TheVariants.{BeforeProblem, BetweenC
 use Rattle.tokens.specs.declared.stream.Tokens.{Tokens}
 use Rattle.text.specs.Limits.{most_bytes}
 use Rattle.tokens.specs.Numbers.{number_word}
-use Rattle.text.specs.Reading.{Reading, clause, Step, on, gives, stops, remaining, between, step_piece, go_on, read}
+use Rattle.text.specs.Problem.{remaining}
+use Rattle.text.specs.Reading.{Reading, clause, Step, on, gives, stops, between, step_piece, go_on, read}
 use Rattle.text.specs.Unread.{begun, brings, read_on, unread, Alike}
 use Rattle.tokens.specs.Scanning.{coming}
 use Rattle.tokens.specs.Words.{Piece, word, comment}

@@ -7,6 +7,7 @@ use Rattle.text.specs.declared.problem.Expected.{Expected}
 use Rattle.text.specs.declared.problem.Expected.TheVariants.{ProblemWord, FormatWord, Variables, Clauses}
 use Rattle.text.specs.declared.problem.Progress.{Progress}
 use Rattle.text.specs.declared.problem.Progress.TheVariants.{Expecting, Complete}
+use Rattle.text.specs.declared.reader.Remaining.{Remaining}
 use Rattle.text.specs.Limits.{most_bytes, most_variables, most_clauses}
 use Rattle.tokens.specs.Numbers.{number_word}
 use Rattle.tokens.specs.Words.{Piece, word, comment, pieces}
@@ -17,13 +18,17 @@ within most place None = Err (NotProblemLine place)
 within most place (Some (negsuc k)) = Err (NotProblemLine place)
 within most place (Some (pos k)) = cond (nat_lt most k) (Err (TooLarge place)) (Ok k)
 
+-- n variables, and m clauses still to come
+abbrev pub remaining : ℕ → ℕ → Remaining
+remaining n m = record { variables = n; clauses = m }
+
 abbrev pub then_clauses : Result ℕ TextFault → Result Progress TextFault
 then_clauses (Err f) = Err f
 then_clauses (Ok n) = Ok (Expecting (Clauses n))
 
 abbrev pub then_complete : ℕ → Result ℕ TextFault → Result Progress TextFault
 then_complete n (Err f) = Err f
-then_complete n (Ok m) = Ok (Complete n m)
+then_complete n (Ok m) = Ok (Complete (remaining n m))
 
 -- what the word w at a place brings, of the four that are expected in turn; n may be at most `limit`
 abbrev pub expect : ℕ → Expected → ℕ → List ℕ → Result Progress TextFault
@@ -40,7 +45,7 @@ expect_piece limit e (comment p c) = Ok (Expecting e)
 abbrev pub go_on : Result Progress TextFault → (Expected → Result (ℕ × ℕ) TextFault) → Result (ℕ × ℕ) TextFault
 go_on (Err f) rest = Err f
 go_on (Ok (Expecting e)) rest = rest e
-go_on (Ok (Complete n m)) rest = Ok (n, m)
+go_on (Ok (Complete r)) rest = Ok (r.variables, r.clauses)
 
 -- n and m of a problem line of which the word e is expected next; `end` is the text's length
 abbrev pub sizes : ℕ → ℕ → Expected → List Piece → Result (ℕ × ℕ) TextFault

@@ -8,12 +8,11 @@ use Rattle.text.specs.declared.faults.ReadFault.TheVariants.{Text, Book}
 use Rattle.text.specs.declared.problem.Expected.TheVariants.{ProblemWord}
 use Rattle.text.specs.declared.problem.Progress.{Progress}
 use Rattle.text.specs.declared.problem.Progress.TheVariants.{Expecting, Complete}
-use Rattle.text.specs.declared.reader.Remaining.{Remaining}
 use Rattle.text.specs.declared.reader.State.{State}
 use Rattle.text.specs.declared.reader.State.TheVariants.{BeforeProblem, BetweenClauses, InsideClause, Done}
 use Rattle.text.specs.Limits.{most_bytes, most_literals}
 use Rattle.tokens.specs.Numbers.{number_word}
-use Rattle.text.specs.Problem.{expect}
+use Rattle.text.specs.Problem.{remaining, expect}
 use Rattle.tokens.specs.Words.{Piece, word, comment, pieces}
 
 -- A clause is given with its signed numbers, the place of its ending 0, and
@@ -41,18 +40,14 @@ pub data Step : Type 0 where
   gives : List ℤ → ℕ → State → Step
   stops : ReadFault → Step
 
--- n variables, and `left` clauses still to come
-abbrev pub remaining : ℕ → ℕ → Remaining
-remaining n left = record { variables = n; clauses = left }
-
--- the state before the first of them
+-- the state before the first of `left` clauses over n variables
 abbrev pub between : ℕ → ℕ → State
 between n left = cond (left == 0) Done (BetweenClauses (remaining n left))
 
 abbrev pub after_problem : Result Progress TextFault → Step
 after_problem (Err f) = stops (Text f)
 after_problem (Ok (Expecting e)) = on (BeforeProblem e) []
-after_problem (Ok (Complete n m)) = on (between n m) []
+after_problem (Ok (Complete r)) = on (between r.variables r.clauses) []
 
 -- a word within the clauses, where the literals ls stand before it in its clause
 abbrev pub clause_word : ℕ → ℕ → ℕ → List ℤ → ℕ → Option ℤ → Step

@@ -2,6 +2,8 @@
 // problem/line.rt.
 pub mod line;
 
+use crate::reader::Remaining;
+
 // Which of its words is read next.
 #[derive(Clone, Copy)]
 pub enum Expected {
@@ -19,5 +21,5 @@ pub enum Expected {
 #[derive(Clone, Copy)]
 pub enum Progress {
     Expecting(Expected),
-    Complete { variables: u32, clauses: u32 },
+    Complete(Remaining),
 }

@@ -21,8 +21,8 @@ use Rattle.text.specs.declared.reader.State.TheVariants.{BeforeProblem, BetweenC
 use Rattle.text_laws.specs.Laws.{SoundTextsSayTheirClauses}
 use Rattle.text.specs.Limits.{most_bytes, most_clauses, most_literals}
 use Rattle.tokens.specs.Numbers.{number_word}
-use Rattle.text.specs.Problem.{within, then_clauses, then_complete, expect, sizes, go_on as line_goes_on}
-use Rattle.text.specs.Reading.{Reading, refused, clauses_of, fault_of, Step, on, gives, stops, remaining, between, after_problem, clause_word, step, at_end, go_on, read}
+use Rattle.text.specs.Problem.{remaining, within, then_clauses, then_complete, expect, sizes, go_on as line_goes_on}
+use Rattle.text.specs.Reading.{Reading, refused, clauses_of, fault_of, Step, on, gives, stops, between, after_problem, clause_word, step, at_end, go_on, read}
 use Rattle.tokens.specs.Words.{Piece, word, comment, pieces, words_of}
 use Rattle.text_laws.specs.Writing.{Literal, Writable, clause_words, saying}
 use Rattle.text_laws.proofs.Numerals.{number_words}
@@ -41,7 +41,7 @@ abbrev Brings : ℕ → (Progress → Type 0) → Expected → List ℕ → Type
 Brings limit P ProblemWord w = (w ≡ codes "p") × P (Expecting FormatWord)
 Brings limit P FormatWord w = (w ≡ codes "cnf") × P (Expecting Variables)
 Brings limit P Variables w = Number limit (λ n. P (Expecting (Clauses n))) w
-Brings limit P (Clauses n) w = Number most_clauses (λ m. P (Complete n m)) w
+Brings limit P (Clauses n) w = Number most_clauses (λ m. P (Complete (remaining n m))) w
 
 -- only the word v is accepted
 same_word : (P : Progress → Type 0) (w v : List ℕ) (g : Progress) (f : TextFault) → Accepted P (cond (bytes_eq w v) (Ok g) (Err f)) ↔ ((w ≡ v) × P g)
@@ -71,7 +71,7 @@ expect-brings limit P (Clauses n) p w = within_number most_clauses p w (λ r. Ac
 
 -- from a progress on, the words ws complete the problem line, and P holds of n, m and the words after it
 abbrev Completes : ℕ → (ℕ → ℕ → List (List ℕ) → Type 0) → Progress → List (List ℕ) → Type 0
-Completes limit P (Complete n m) ws = P n m ws
+Completes limit P (Complete r) ws = P r.variables r.clauses ws
 Completes limit P (Expecting e) [] = ⊥
 Completes limit P (Expecting e) (w ∷ ws) = Brings limit (λ g. Completes limit P g ws) e w
 
@@ -102,7 +102,7 @@ module _ (limit end n m : ℕ) where
       → Accepted (λ g. Completes limit Sizes g (words_of ps)) r → line_goes_on r (λ e. sizes limit end e ps) ≡ Ok (n, m)
   sizes-after (Err f) ps more h = absurd h
   sizes-after (Ok (Expecting e)) ps more h = more e h
-  sizes-after (Ok (Complete k l)) ps more h = cc
+  sizes-after (Ok (Complete r)) ps more h = cc
 
   sizes_from : (e : Expected) (ps : List Piece) → Completes limit Sizes (Expecting e) (words_of ps) → sizes limit end e ps ≡ Ok (n, m)
   sizes_from e [] h = absurd h
@@ -185,7 +185,7 @@ module _ (limit : ℕ) (ws : List (List ℕ)) (cs : List (List ℤ)) where
   problem_brings : (r : Result Progress TextFault) → Brought (after_problem r) ↔ Accepted (λ g. Completes limit (λ n m rest. ClausesSaid n m rest cs) g ws) r
   problem_brings (Err f) = Iff.rfl
   problem_brings (Ok (Expecting e)) = Iff.rfl
-  problem_brings (Ok (Complete n m)) = (between_tells limit n m ws cs, between_said limit n m ws cs)
+  problem_brings (Ok (Complete r)) = (between_tells limit r.variables r.clauses ws cs, between_said limit r.variables r.clauses ws cs)
 
   -- a word of a clause: its next literal, or its 0
   module _ (n left : ℕ) (ls : List ℤ) (p : ℕ) (w : List ℕ) where

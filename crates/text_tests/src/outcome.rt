@@ -12,7 +12,8 @@ pub struct Outcome {
     pub refusal: Option<(u8, usize)>,
 }
 
-// Reads a text clause by clause. No text has more clauses than `MOST_CLAUSES`.
+// Reads a text clause by clause, with places of its own to lend. No text has
+// more clauses than `MOST_CLAUSES`.
 pub(crate) fn read_whole(text: &[u8], limit: u32) -> Outcome {
     let mut places = [0; MOST_LITERALS];
     let mut reader = Reader::new(text, limit, &mut places);

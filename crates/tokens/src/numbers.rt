@@ -1,5 +1,5 @@
 // Number words: 0, or an optional minus sign and one to five digits, the
-// first not 0.
+// first not 0. Read by hand, since the library's `parse` takes +7, 007 and -0.
 ghost use Rattle.std.specs.Prelude.{◌≡◌, ◌<◌, IfSome};
 ghost use Rattle.tokens.specs.Numbers.{is_sized, plain_value, number_word};
 

@@ -1,14 +1,25 @@
 // What a valuation says of the variables, and the two valuations.
-ghost use Rattle.std.specs.Prelude.{◌≡◌, ℕ, ◌≤◌};
+ghost use Rattle.std.specs.Prelude.{◌≡◌, ℕ, ◌≤◌, if◌then◌else◌};
 ghost use Rattle.words.specs.Bits.{width, BitsWhere};
 ghost use Rattle.clauses.specs.declared.value.Value.{Value};
-ghost use Rattle.clauses.specs.declared.value.Value.TheVariants.{Unset};
+ghost use Rattle.clauses.specs.declared.value.Value.TheVariants.{True, False, Unset};
 ghost use Rattle.clauses.specs.Literals.{value_of};
 ghost use Rattle.clauses.specs.Values.{is_true, is_false, full, partly};
 ghost use Rattle.std.proofs.Common.{rules};
 
 use clauses::clause::Clause;
 use clauses::value::Value;
+
+// The value of a literal that is true, or that is false, or neither.
+fn told(is_true: bool, is_false: bool) -> Value
+    ensures value { result ≡ (if is_true then True else (if is_false then False else Unset)) }
+{
+    match (is_true, is_false) {
+        (true, _) => Value::True,
+        (false, true) => Value::False,
+        (false, false) => Value::Unset,
+    }
+}
 
 pub trait Valuation {
     // For each variable true, false or unset; variable v at place v - 1.
@@ -23,6 +34,7 @@ pub trait Valuation {
         ensures bits { BitsWhere (λ k. is_false (values self.now k)) result };
 
     // The value of a literal.
+    #[tactic(auto, using(crate::proofs::Valued::value_words))]
     fn value(&self, literal: i32) -> Value
         ensures value { result ≡ value_of (values self.now) literal }
     {
@@ -30,17 +42,11 @@ pub trait Valuation {
             pos: self.trues(),
             neg: self.falses(),
         };
-        if trues.holds(literal) {
-            return Value::True;
-        }
         let falses = Clause {
             pos: trues.neg,
             neg: trues.pos,
         };
-        if falses.holds(literal) {
-            return Value::False;
-        }
-        Value::Unset
+        told(trues.holds(literal), falses.holds(literal))
     }
 
     // There are 64 variables.

@@ -4,6 +4,8 @@ ghost use Rattle.table.specs.Held.{held, beyond, places_of, free, Pushed, Stands
 
 use super::{Filled, Full};
 
+// `lent` ties the reference after a call to the one before, so that the lender
+// learns what its places hold; no invariant of a value says that.
 impl<'a, T: Copy> Filled<'a, T> {
     // No entry yet; every place keeps what the caller had there.
     pub fn new(places: &'a mut [T]) -> Filled<'a, T>

@@ -6,6 +6,7 @@ ghost use Rattle.tokens.specs.Scanning.{piece_at};
 use super::{Expected, Progress};
 use crate::faults::TextFault;
 use crate::limits::{MOST_BYTES, MOST_CLAUSES, MOST_VARIABLES};
+use crate::reader::Remaining;
 use tokens::stream::{Placed, Token, Tokens};
 
 // A number without minus sign, at most `most`.
@@ -21,6 +22,7 @@ fn size(number: i32, most: u32, place: usize) -> Result<u32, TextFault>
 
 impl Expected {
     // Takes a token; a comment is passed over. Up to `limit` variables may be.
+    // One table of what each word may be, since what is expected outlives a call.
     pub(crate) fn take(self, limit: u32, piece: Placed<'_>) -> Result<Progress, TextFault>
         ensures value { result ≡ expect_piece limit self (piece_at piece.entry) }
     {
@@ -39,7 +41,7 @@ impl Expected {
             }
             (Expected::Clauses(variables), Token::Number(_, x)) => {
                 let clauses = size(x, MOST_CLAUSES, place)?;
-                Ok(Progress::Complete { variables, clauses })
+                Ok(Progress::Complete(Remaining { variables, clauses }))
             }
             (_, _) => Err(TextFault::NotProblemLine { place }),
         }
@@ -57,7 +59,7 @@ pub fn head(text: &[u8]) -> Result<(u32, u32), TextFault>
     for piece in Tokens::new(text) {
         match expected.take(MOST_VARIABLES, piece)? {
             Progress::Expecting(next) => expected = next,
-            Progress::Complete { variables, clauses } => return Ok((variables, clauses)),
+            Progress::Complete(all) => return Ok((all.variables, all.clauses)),
         }
     }
     Err(TextFault::NotProblemLine { place: text.len() })

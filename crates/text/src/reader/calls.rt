@@ -2,7 +2,8 @@
 ghost use Rattle.std.specs.Prelude.{◌≡◌, ◌-◌, [], length, Ok};
 ghost use Rattle.table.specs.Held.{held};
 ghost use Rattle.tokens.specs.Scanning.{piece_at};
-ghost use Rattle.text.specs.Reading.{on, after_problem, remaining, at_end, between, reading};
+ghost use Rattle.text.specs.Problem.{remaining};
+ghost use Rattle.text.specs.Reading.{on, after_problem, at_end, between, reading};
 ghost use Rattle.text.specs.Unread.{brings, number_brings, unread, Ended, Gave, Took, Alike};
 
 use super::{Reader, Remaining, State};
@@ -42,14 +43,14 @@ impl From<Progress> for State {
     fn from(progress: Progress) -> State {
         match progress {
             Progress::Expecting(next) => State::BeforeProblem(next),
-            Progress::Complete { variables, clauses } => Remaining { variables, clauses }.begin(),
+            Progress::Complete(all) => all.begin(),
         }
     }
 }
 
 impl<'t, 'p> Reader<'t, 'p> {
     // Takes up to `limit` variables. The literals of each clause in turn are
-    // put into `places`.
+    // put into `places`, which are lent, since nothing here allocates.
     pub fn new(text: &'t [u8], limit: u32, places: &'p mut [i32; MOST_LITERALS]) -> Reader<'t, 'p>
         ensures unread { unread result ≡ reading limit text.now }
     {
@@ -82,9 +83,9 @@ impl<'t, 'p> Reader<'t, 'p> {
         if size > left.variables {
             return Err(TextFault::AboveVariables { place }.into());
         }
-        if self.literals.push(x).is_err() {
-            return Err(BookFault::TooManyLiterals { place }.into());
-        }
+        self.literals
+            .push(x)
+            .map_err(|_| BookFault::TooManyLiterals { place })?;
         self.state = State::InsideClause(left);
         Ok(None)
     }
@@ -114,7 +115,7 @@ impl<'t, 'p> Reader<'t, 'p> {
         }
     }
 
-    // The end of the text.
+    // The end of the text, told by where it stands.
     fn finish(&self) -> Result<Option<usize>, ReadFault>
         ensures value { Ended (at_end (length self.now.tokens.text.now) self.now.state) result }
     {
@@ -134,6 +135,8 @@ impl<'t, 'p> Reader<'t, 'p> {
     pub fn next_clause(&mut self) -> Result<Option<usize>, ReadFault>
         ensures gave { Gave (unread self.old) result (held self.new.literals) (unread self.new) }
     {
+        // A copy goes ahead, and is kept once its token is taken: a refusal
+        // leaves the reader as it was.
         let mut ahead = self.tokens;
         if ahead.text_len() > MOST_BYTES {
             return Err(TextFault::TooLong.into());

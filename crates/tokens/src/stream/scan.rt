@@ -17,6 +17,9 @@ fn parts(b: u8) -> bool
     matches!(b, b' ' | b'\t' | b'\r' | b'\n')
 }
 
+// Three counts and not one over the test: that one stays unproved, since no
+// search follows the count through a test that is a parameter.
+
 // How many bytes of a gap stand here, before the first that parts no words.
 fn gap_len(bytes: &[u8]) -> usize
     ensures value { result ≡ prefix_len parts_words bytes.now }
@@ -109,7 +112,8 @@ impl<'a> Tokens<'a> {
         self.early && (at == 0 || text[at - 1] == b'\n') && text.get(at) == Some(&b'c')
     }
 
-    // The comment that begins here.
+    // The comment that begins here. That the text stays ties what is there after
+    // a call to what was before, which no invariant of a value says.
     #[tactic(auto, using(crate::proofs::Gaps::within, crate::proofs::Gaps::first_comment))]
     fn comment(&mut self) -> Placed<'a>
         requires within { self.old.at < length self.old.text.now }

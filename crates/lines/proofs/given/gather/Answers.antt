@@ -1,11 +1,8 @@
-use Rattle.std.proofs.Common.{refl, get_or, pos, w32, SFits, rules, arith}
+use Rattle.std.proofs.Common.{get_or, pos, w32, SFits, rules, arith}
 use Rattle.std.proofs.lemmas.Grind.{common_steps}
 use Rattle.std.proofs.lemmas.Int.{to_z-of_z}
-use Rattle.lines.proofs.Gathering.{none-held, one_more}
+use Rattle.lines.proofs.Gathering.{one_more}
 use Rattle.lines.proofs.given.gather.Goals as goal
-
-pub loop-number-init : goal.loop-number-init
-loop-number-init c = (refl, none-held)
 
 pub loop-number-preserved : goal.loop-number-preserved
 loop-number-preserved c =

@@ -1,11 +1,8 @@
 use Rattle.std.proofs.Common.{◌≡◌, pos, cond, neg_ℤ, arith, w32, to_z}
 use Rattle.std.proofs.lemmas.Int.{ints}
-use Rattle.clauses.proofs.Splits.{split_none, split_some}
+use Rattle.clauses.proofs.Splits.{split_some}
 use Rattle.clauses.proofs.clause.Clause.split_first.Goals as goal
 use Rattle.clauses.proofs.clause.Clause.split_first.Goals.{then-holds, else-holds}
-
-pub returns-in_err-v : goal.returns-in_err-v
-returns-in_err-v c = record { splits = split_none c.args.self.now _ c.in_err-v.ensures.value c.from_residual.ensures }
 
 pub returns : goal.returns
 returns c =
