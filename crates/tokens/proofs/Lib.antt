@@ -1,3 +1,2 @@
-mod Digits
 mod Gaps
 pub mod Lines
