@@ -13,8 +13,8 @@ use Rattle.text.proofs.Steps.{problem_by, clause_by}
 -- how many clauses may come in a state; where one is being read, at least that one
 abbrev to_come : State → ℕ
 to_come (BeforeProblem e) = most_clauses
-to_come (BetweenClauses a) = suc (a.clauses - 1)
-to_come (InsideClause a) = suc (a.clauses - 1)
+to_come (BetweenClauses left) = suc (left.clauses - 1)
+to_come (InsideClause left) = suc (left.clauses - 1)
 to_come Done = 0
 
 -- a step leaves no more clauses than k to come, the one that it gives among them
@@ -31,10 +31,10 @@ between-within n left =
 step-within : (most limit : ℕ) (s : State) (ls : List ℤ) (p : ℕ) (w : List ℕ) → Within (to_come s) (step most limit s ls p w)
 step-within most limit (BeforeProblem e) ls p w =
     problem_by (Within most_clauses) p (λ _ _. tt) limit w (λ _. omega arith) (λ n m h. omega (arith, between-within n m)) e
-step-within most limit (BetweenClauses a) ls p w =
-    clause_by (Within (suc (a.clauses - 1))) p (λ _ _. tt) most a.variables a.clauses [] (omega (arith, between-within a.variables (a.clauses - 1))) (λ _. omega arith) (number_word w)
-step-within most limit (InsideClause a) ls p w =
-    clause_by (Within (suc (a.clauses - 1))) p (λ _ _. tt) most a.variables a.clauses ls (omega (arith, between-within a.variables (a.clauses - 1))) (λ _. omega arith) (number_word w)
+step-within most limit (BetweenClauses left) ls p w =
+    clause_by (Within (suc (left.clauses - 1))) p (λ _ _. tt) most left.variables left.clauses [] (omega (arith, between-within left.variables (left.clauses - 1))) (λ _. omega arith) (number_word w)
+step-within most limit (InsideClause left) ls p w =
+    clause_by (Within (suc (left.clauses - 1))) p (λ _ _. tt) most left.variables left.clauses ls (omega (arith, between-within left.variables (left.clauses - 1))) (λ _. omega arith) (number_word w)
 step-within most limit Done ls p w = tt
 
 go_on_few : (k : ℕ) (t : Step) (rest : State → List ℤ → Reading) → Within k t → ((s : State) (ls : List ℤ) → length (clauses_of (rest s ls)) ≤ to_come s) → length (clauses_of (go_on t rest)) ≤ k
@@ -44,8 +44,8 @@ go_on_few k (stops f) rest h few = omega arith
 
 read_few : (most limit end : ℕ) (s : State) (ls : List ℤ) (ps : List Piece) → length (clauses_of (read most limit end s ls ps)) ≤ to_come s
 read_few most limit end (BeforeProblem e) ls [] = omega arith
-read_few most limit end (BetweenClauses a) ls [] = omega arith
-read_few most limit end (InsideClause a) ls [] = omega arith
+read_few most limit end (BetweenClauses left) ls [] = omega arith
+read_few most limit end (InsideClause left) ls [] = omega arith
 read_few most limit end Done ls [] = omega arith
 read_few most limit end s ls (comment p c ∷ ps) = read_few most limit end s ls ps
 read_few most limit end s ls (word p w ∷ ps) =

@@ -27,10 +27,10 @@ begun-between n left ks = cond_both (eqb left 0) Done (BetweenClauses (remaining
 step_rests : (most limit : ℕ) (s : State) (ls : List ℤ) (x : Piece) → Rests (step_piece most limit s ls x)
 step_rests most limit s ls (comment p c) = tt
 step_rests most limit (BeforeProblem e) ls (word p w) = problem_by Rests p (λ _ _. tt) limit w (λ _. tt) (λ _ _ _. tt) e
-step_rests most limit (BetweenClauses a) ls (word p w) =
-    clause_by Rests p (λ _ _. tt) most a.variables a.clauses [] (begun-between a.variables (a.clauses - 1)) (λ _. tt) (number_word w)
-step_rests most limit (InsideClause a) ls (word p w) =
-    clause_by Rests p (λ _ _. tt) most a.variables a.clauses ls (begun-between a.variables (a.clauses - 1)) (λ _. tt) (number_word w)
+step_rests most limit (BetweenClauses left) ls (word p w) =
+    clause_by Rests p (λ _ _. tt) most left.variables left.clauses [] (begun-between left.variables (left.clauses - 1)) (λ _. tt) (number_word w)
+step_rests most limit (InsideClause left) ls (word p w) =
+    clause_by Rests p (λ _ _. tt) most left.variables left.clauses ls (begun-between left.variables (left.clauses - 1)) (λ _. tt) (number_word w)
 step_rests most limit Done ls (word p w) = tt
 
 -- what a short enough text has still to say

@@ -61,8 +61,8 @@ clause_word most n left ls p (Some x) =
 -- what the word w at the place p brings; a clause may have `most` literals
 abbrev pub step : ℕ → ℕ → State → List ℤ → ℕ → List ℕ → Step
 step most limit (BeforeProblem e) ls p w = after_problem (expect limit e p w)
-step most limit (BetweenClauses a) ls p w = clause_word most a.variables a.clauses [] p (number_word w)
-step most limit (InsideClause a) ls p w = clause_word most a.variables a.clauses ls p (number_word w)
+step most limit (BetweenClauses left) ls p w = clause_word most left.variables left.clauses [] p (number_word w)
+step most limit (InsideClause left) ls p w = clause_word most left.variables left.clauses ls p (number_word w)
 step most limit Done ls p w = stops (Text (WordAfterClauses p))
 
 -- the same of any piece: a comment is passed over
@@ -73,8 +73,8 @@ step_piece most limit s ls (comment p c) = on s ls
 -- what the end of the text brings; `end` is its length
 abbrev pub at_end : ℕ → State → Reading
 at_end end (BeforeProblem e) = refused (Text (NotProblemLine end))
-at_end end (BetweenClauses a) = refused (Text (ClausesMissing end))
-at_end end (InsideClause a) = refused (Text (EndsInsideClause end))
+at_end end (BetweenClauses left) = refused (Text (ClausesMissing end))
+at_end end (InsideClause left) = refused (Text (EndsInsideClause end))
 at_end end Done = well
 
 abbrev pub go_on : Step → (State → List ℤ → Reading) → Reading

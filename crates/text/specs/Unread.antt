@@ -17,8 +17,8 @@ use Rattle.text.specs.Reading.{Reading, clause, well, refused, Step, on, gives, 
 -- between clauses there are no literals yet
 abbrev pub begun : State → List ℤ → List ℤ
 begun (BeforeProblem e) ls = []
-begun (BetweenClauses a) ls = []
-begun (InsideClause a) ls = ls
+begun (BetweenClauses left) ls = []
+begun (InsideClause left) ls = ls
 begun Done ls = []
 
 -- what a text has still to say, in a state with the literals ls so far
@@ -38,7 +38,7 @@ brings r x = step_piece (length (places_of r.literals)) r.limit r.state (begun r
 
 -- the step that a number brings, after the literals that are held
 abbrev pub number_brings : Reader → Remaining → ℕ → ℤ → Step
-number_brings r a p x = clause_word (length (places_of r.literals)) a.variables a.clauses (held r.literals) p (Some x)
+number_brings r left p x = clause_word (length (places_of r.literals)) left.variables left.clauses (held r.literals) p (Some x)
 
 -- how a text ends, as a call of the reader tells it
 abbrev pub Ended : Reading → Result (Option ℕ) ReadFault → Type 0

@@ -12,7 +12,7 @@ use Rattle.text.specs.Limits.{most_bytes, most_literals}
 use Rattle.tokens.specs.Numbers.{number_word}
 use Rattle.text.specs.Reading.{Reading, clause, well, refused, fault_of, Step, on, gives, stops, step, at_end, go_on, read, reading}
 use Rattle.text.specs.Refusals.{read_refusal, place_of}
-use Rattle.tokens.specs.Scanning.{Word, Line, Mode, gap, inside, opens_comment, next_mode, ended, unended, scan}
+use Rattle.tokens.specs.Scanning.{a_word, a_comment, Mode, gap, inside, opens_comment, next_mode, ended, unended, scan}
 use Rattle.tokens.specs.Words.{Piece, word, comment, parts_words, ends_line, early_after}
 use Rattle.tokens.proofs.Lines.{pieces_scanned}
 use Rattle.text.proofs.Steps.{problem_by, clause_by}
@@ -25,8 +25,8 @@ StopsAt p (stops f) = place_of (read_refusal f) ≡ p
 
 step-at : (most limit : ℕ) (s : State) (ls : List ℤ) (p : ℕ) (w : List ℕ) → StopsAt p (step most limit s ls p w)
 step-at most limit (BeforeProblem e) ls p w = problem_by (StopsAt p) p (λ _ h. h) limit w (λ _. tt) (λ _ _ _. tt) e
-step-at most limit (BetweenClauses a) ls p w = clause_by (StopsAt p) p (λ _ h. h) most a.variables a.clauses [] tt (λ _. tt) (number_word w)
-step-at most limit (InsideClause a) ls p w = clause_by (StopsAt p) p (λ _ h. h) most a.variables a.clauses ls tt (λ _. tt) (number_word w)
+step-at most limit (BetweenClauses left) ls p w = clause_by (StopsAt p) p (λ _ h. h) most left.variables left.clauses [] tt (λ _. tt) (number_word w)
+step-at most limit (InsideClause left) ls p w = clause_by (StopsAt p) p (λ _ h. h) most left.variables left.clauses ls tt (λ _. tt) (number_word w)
 step-at most limit Done ls p w = refl
 
 -- no word stands before the place q
@@ -59,8 +59,8 @@ go_on-alike f (stops g) rest rest' alike e = refl
 module _ (most limit q end : ℕ) (before-end : q ≤ end) where
   end_later : (s : State) → RefusedLater q (at_end end s)
   end_later (BeforeProblem e) = before-end
-  end_later (BetweenClauses a) = before-end
-  end_later (InsideClause a) = before-end
+  end_later (BetweenClauses left) = before-end
+  end_later (InsideClause left) = before-end
   end_later Done = tt
 
   -- later words are refused later
@@ -84,24 +84,24 @@ module _ (most limit q end : ℕ) (before-end : q ≤ end) where
 module _ (q : ℕ) where
   abbrev OpenedLater : Mode → Type 0
   OpenedLater (gap early fresh) = Unit {0}
-  OpenedLater (inside Word early s w) = q ≤ s
-  OpenedLater (inside Line early s w) = Unit {0}
+  OpenedLater (inside a_word early s w) = q ≤ s
+  OpenedLater (inside a_comment early s w) = Unit {0}
 
   next_later : (m : Mode) (p b : ℕ) → q ≤ p → OpenedLater m → OpenedLater (next_mode m p b)
   next_later (gap early fresh) p b h o =
-      cond_both (parts_words b) _ _ OpenedLater (λ _. tt) (λ _. cond_both (opens_comment early fresh b) Line Word (λ part. OpenedLater (inside part early p (b ∷ []))) (λ _. tt) (λ _. h))
-  next_later (inside Word early s w) p b h o = cond_both (parts_words b) _ _ OpenedLater (λ _. tt) (λ _. o)
-  next_later (inside Line early s w) p b h o = cond_both (ends_line b) _ _ OpenedLater (λ _. tt) (λ _. tt)
+      cond_both (parts_words b) _ _ OpenedLater (λ _. tt) (λ _. cond_both (opens_comment early fresh b) a_comment a_word (λ part. OpenedLater (inside part early p (b ∷ []))) (λ _. tt) (λ _. h))
+  next_later (inside a_word early s w) p b h o = cond_both (parts_words b) _ _ OpenedLater (λ _. tt) (λ _. o)
+  next_later (inside a_comment early s w) p b h o = cond_both (ends_line b) _ _ OpenedLater (λ _. tt) (λ _. tt)
 
   ended-later : (m : Mode) (b : ℕ) → OpenedLater m → AllByRecursion (Later q) (ended m b)
   ended-later (gap early fresh) b o = tt
-  ended-later (inside Word early s w) b o = cond_both (parts_words b) _ _ (AllByRecursion (Later q)) (λ _. (o, tt)) (λ _. tt)
-  ended-later (inside Line early s w) b o = cond_both (ends_line b) _ _ (AllByRecursion (Later q)) (λ _. (tt, tt)) (λ _. tt)
+  ended-later (inside a_word early s w) b o = cond_both (parts_words b) _ _ (AllByRecursion (Later q)) (λ _. (o, tt)) (λ _. tt)
+  ended-later (inside a_comment early s w) b o = cond_both (ends_line b) _ _ (AllByRecursion (Later q)) (λ _. (tt, tt)) (λ _. tt)
 
   unended-later : (m : Mode) → OpenedLater m → AllByRecursion (Later q) (unended m)
   unended-later (gap early fresh) o = tt
-  unended-later (inside Word early s w) o = (o, tt)
-  unended-later (inside Line early s w) o = (tt, tt)
+  unended-later (inside a_word early s w) o = (o, tt)
+  unended-later (inside a_comment early s w) o = (tt, tt)
 
   scan-later : (m : Mode) (p : ℕ) (bs : List ℕ) → q ≤ p → OpenedLater m → AllByRecursion (Later q) (scan m p bs)
   scan-later m p [] h o = unended-later m o
@@ -112,8 +112,8 @@ module _ (q : ℕ) where
 -- what a scan gives of a text's front, whose last word ends there; a comment may go on
 abbrev open_word : Mode → List Piece
 open_word (gap early fresh) = []
-open_word (inside Word early s w) = word s w ∷ []
-open_word (inside Line early s w) = []
+open_word (inside a_word early s w) = word s w ∷ []
+open_word (inside a_comment early s w) = []
 
 abbrev of_front : Mode → ℕ → List ℕ → List Piece
 of_front m p [] = open_word m
@@ -125,9 +125,9 @@ Parted q ps all = (more : List Piece) × (all ≡ ps ++ more) × AllByRecursion 
 
 part_here : (q : ℕ) (m : Mode) (p : ℕ) (back : List ℕ) → Apart back → q ≤ p → Parted q (open_word m) (scan m p back)
 part_here q (gap early fresh) p back apart h = (_, refl, scan-later q (gap early fresh) p back h tt)
-part_here q (inside Line early s w) p back apart h = (_, refl, scan-later q (inside Line early s w) p back h tt)
-part_here q (inside Word early s w) p [] apart h = ([], refl, tt)
-part_here q (inside Word early s w) p (b ∷ bs) apart h =
+part_here q (inside a_comment early s w) p back apart h = (_, refl, scan-later q (inside a_comment early s w) p back h tt)
+part_here q (inside a_word early s w) p [] apart h = ([], refl, tt)
+part_here q (inside a_word early s w) p (b ∷ bs) apart h =
     let after = gap (early_after early w) (ends_line b) in
     (scan after (p + 1) bs, rw apart, scan-later q after (p + 1) bs (omega arith) tt)
 

@@ -135,8 +135,8 @@ RestSaid n left ls ws cs =
 -- in a state, the words ws that are left say the clauses cs that are left
 abbrev Said : ℕ → State → List ℤ → List (List ℕ) → List (List ℤ) → Type 0
 Said limit (BeforeProblem e) ls ws cs = Completes limit (λ n m rest. ClausesSaid n m rest cs) (Expecting e) ws
-Said limit (BetweenClauses a) ls ws cs = RestSaid a.variables a.clauses [] ws cs
-Said limit (InsideClause a) ls ws cs = RestSaid a.variables a.clauses ls ws cs
+Said limit (BetweenClauses left) ls ws cs = RestSaid left.variables left.clauses [] ws cs
+Said limit (InsideClause left) ls ws cs = RestSaid left.variables left.clauses ls ws cs
 Said limit Done ls ws cs = (ws ≡ []) × (cs ≡ [])
 
 -- after the problem line or a clause, m clauses are left
@@ -215,15 +215,15 @@ module _ (limit : ℕ) (ws : List (List ℕ)) (cs : List (List ℤ)) where
   -- a word in any state
   step-brings : (s : State) (ls : List ℤ) (p : ℕ) (w : List ℕ) → Brought (step most_literals limit s ls p w) ↔ Said limit s ls (w ∷ ws) cs
   step-brings (BeforeProblem e) ls p w = Iff.trans (problem_brings (expect limit e p w)) (expect-brings limit _ e p w)
-  step-brings (BetweenClauses a) ls p w = (clause_tells a.variables a.clauses [] p w (number_word w) refl, clause_said a.variables a.clauses [] p w)
-  step-brings (InsideClause a) ls p w = (clause_tells a.variables a.clauses ls p w (number_word w) refl, clause_said a.variables a.clauses ls p w)
+  step-brings (BetweenClauses left) ls p w = (clause_tells left.variables left.clauses [] p w (number_word w) refl, clause_said left.variables left.clauses [] p w)
+  step-brings (InsideClause left) ls p w = (clause_tells left.variables left.clauses ls p w (number_word w) refl, clause_said left.variables left.clauses ls p w)
   step-brings Done ls p w = (λ h. absurd h, λ (e, _). absurd (cons≢nil e))
 
 module _ (limit end : ℕ) where
   end_says : (s : State) (ls : List ℤ) (cs : List (List ℤ)) → Says cs (at_end end s) ↔ Said limit s ls [] cs
   end_says (BeforeProblem e) ls cs = refused_says _ cs (λ h. h)
-  end_says (BetweenClauses a) ls cs = refused_says _ cs (λ h. no_words h.0 h.2 h.4)
-  end_says (InsideClause a) ls cs = refused_says _ cs (λ h. no_words h.0 h.2 h.4)
+  end_says (BetweenClauses left) ls cs = refused_says _ cs (λ h. no_words h.0 h.2 h.4)
+  end_says (InsideClause left) ls cs = refused_says _ cs (λ h. no_words h.0 h.2 h.4)
   end_says Done ls cs = (λ (e, _). (refl, sym e), λ (_, e). (sym e, refl))
 
   -- pieces are read as the clauses that their words say

@@ -8,7 +8,7 @@ use Rattle.std.proofs.lemmas.Bool.Decides.{nat_tests}
 use Rattle.text_laws.specs.Laws.{WrittenIsRead, WrittenHasItsHead}
 use Rattle.text.specs.Limits.{most_bytes, most_variables, most_literals}
 use Rattle.tokens.specs.Numbers.{is_digit, all_digits}
-use Rattle.tokens.specs.Scanning.{Word, scan, gap, inside}
+use Rattle.tokens.specs.Scanning.{a_word, scan, gap, inside}
 use Rattle.tokens.specs.Words.{pieces, words_of, parts_words, ends_line}
 use Rattle.text_laws.specs.Writing.{Literal, Writable, clause_words, clause_line, saying, written}
 use Rattle.tokens.proofs.Lines.{pieces_scanned}
@@ -43,7 +43,7 @@ AreWords bs ws = (fresh : Bool) (p : ℕ) → words_of (scan (gap false fresh) p
 
 -- a scan inside a word, of which v is left, gives it at the byte b that ends it
 rest_of_word : (s p : ℕ) (w v : List ℕ) (b : ℕ) (rest : List ℕ) (ws : List (List ℕ)) → Inner v → parts_words b ≡ true → AreWords rest ws
-    → words_of (scan (inside Word false s w) p (v ++ b ∷ rest)) ≡ (w ++ v) ∷ ws
+    → words_of (scan (inside a_word false s w) p (v ++ b ∷ rest)) ≡ (w ++ v) ∷ ws
 rest_of_word s p w [] b rest ws i h more = rw (h, append-nil, more (ends_line b) (p + 1))
 rest_of_word s p w (c ∷ v) b rest ws i h more = rw (i.0, ← append_assoc w (c ∷ []) v) (rest_of_word s (p + 1) (w ++ c ∷ []) v b rest ws i.1 h more)
 

@@ -7,7 +7,7 @@ use Rattle.std.proofs.lemmas.Bool.{ne_eqb}
 use Rattle.std.proofs.lemmas.Bool.Decides.{nat_tests}
 use Rattle.tokens.specs.declared.stream.Tokens.{Tokens}
 use Rattle.tokens.specs.Words.{Piece, word, comment, parts_words, ends_line, early_after}
-use Rattle.tokens.specs.Scanning.{Part, Word, Line, Mode, gap, inside, part_ends, piece_of, early_past_part, opened, unended, scan, begins_line, pieces_from, coming, GapEnds, opens_here}
+use Rattle.tokens.specs.Scanning.{Part, a_word, a_comment, Mode, gap, inside, part_ends, piece_of, early_past_part, opened, unended, scan, begins_line, pieces_from, coming, GapEnds, opens_here}
 
 -- after the byte at p, the next place begins a line if that byte is LF
 next_line : (t : List ℕ) (p : ℕ) → begins_line t (p + 1) ≡ ends_line (get_or t p 0)
@@ -16,17 +16,18 @@ next_line t p =
     let back : p + 1 - 1 ≡ p = omega arith in
     simp (no, back)
 
+-- a count of the first bytes that pass is no more than there are
 pub within : (test : ℕ → Bool) (bytes : List ℕ) (n : ℕ) → n ≡ prefix_len test bytes → n ≤ length bytes
 within test bytes n e = omega (arith, e, prefix_len-le-length test bytes)
 
 -- a byte that ends a part, as LF a comment, parts words
 ends_parts : (part : Part) (b : ℕ) → part_ends part b ≡ true → parts_words b ≡ true
-ends_parts Word b y = y
-ends_parts Line b y = grind (arith, nat_tests)
+ends_parts a_word b y = y
+ends_parts a_comment b y = grind (arith, nat_tests)
 
 no_end : (part : Part) (b : ℕ) → parts_words b ≡ false → part_ends part b ≡ false
-no_end Word b y = y
-no_end Line b y = grind (arith, nat_tests)
+no_end a_word b y = y
+no_end a_comment b y = grind (arith, nat_tests)
 
 -- one byte b, and the bytes after it
 module _ (p b : ℕ) (bs : List ℕ) (early : Bool) where
@@ -138,10 +139,10 @@ module _ (t : List ℕ) (p : ℕ) (h : p < length t) (early : Bool) (part : Part
 module _ (s : Tokens) (rest : List ℕ) (n : ℕ) (h : s.at < length s.text.now) (ends : GapEnds s) (is_rest : rest ≡ drop s.at s.text.now) where
   pub first_comment : opens_here s ≡ true → n ≡ prefix_len (λ b. not (ends_line b)) rest
       → coming s ≡ comment s.at (take n rest) ∷ pieces_from s.early s.text.now (s.at + length (take n rest))
-  first_comment o e = first_part s.text.now s.at h s.early Line rest n is_rest e (ends.0 h) (ap (λ b. cond b Line Word) o)
+  first_comment o e = first_part s.text.now s.at h s.early a_comment rest n is_rest e (ends.0 h) (ap (λ b. cond b a_comment a_word) o)
 
   pub first_word : (x : Piece) (early : Bool) → opens_here s ≡ false → n ≡ prefix_len (λ b. not (parts_words b)) rest
       → x ≡ word s.at (take n rest) → early ≡ early_after s.early (take n rest)
       → coming s ≡ x ∷ pieces_from early s.text.now (s.at + length (take n rest))
   first_word x early o e is_word is_early =
-      rw (is_word, is_early) (first_part s.text.now s.at h s.early Word rest n is_rest e (ends.0 h) (ap (λ b. cond b Line Word) o))
+      rw (is_word, is_early) (first_part s.text.now s.at h s.early a_word rest n is_rest e (ends.0 h) (ap (λ b. cond b a_comment a_word) o))

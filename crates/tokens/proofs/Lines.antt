@@ -3,7 +3,7 @@ use Rattle.std.proofs.Common.{◌≡◌, ℕ, ◌+◌, Bool, true, false, cond, 
 use Rattle.std.proofs.lemmas.List.{append-nil}
 use Rattle.std.proofs.lemmas.Bool.{eqb-true, and_right}
 use Rattle.std.proofs.lemmas.Bool.Decides.{nat_tests}
-use Rattle.tokens.specs.Scanning.{Word, Line, Mode, gap, inside, opens_comment, next_mode, ended, unended, scan}
+use Rattle.tokens.specs.Scanning.{a_word, a_comment, Mode, gap, inside, opens_comment, next_mode, ended, unended, scan}
 use Rattle.tokens.specs.Words.{Stretch, at, Piece, word, comment, cut, stretches, lines, parts_words, ends_line, words, filled_words, early_after, early_past, pieces_of_lines}
 
 -- a word that began at s with the bytes w goes on into the first stretch
@@ -14,14 +14,14 @@ lengthened s w (at p v ∷ ss) = word s (w ++ v) ∷ filled_words ss
 -- comments may come, the word that is being scanned not counted
 abbrev early_in : Mode → Bool
 early_in (gap early fresh) = early
-early_in (inside Word early s w) = early
-early_in (inside Line early s w) = early
+early_in (inside a_word early s w) = early
+early_in (inside a_comment early s w) = early
 
 -- the pieces that a scan gives on its line, of which the bytes l at the place p are left
 abbrev on_line : Mode → ℕ → List ℕ → List Piece
 on_line (gap early fresh) p l = cond (opens_comment early fresh (get_or l 0 0)) (comment p l ∷ []) (words p l)
-on_line (inside Word early s w) p l = lengthened s w (stretches parts_words p l)
-on_line (inside Line early s w) p l = comment s (w ++ l) ∷ []
+on_line (inside a_word early s w) p l = lengthened s w (stretches parts_words p l)
+on_line (inside a_comment early s w) p l = comment s (w ++ l) ∷ []
 
 -- the pieces ps, and those of the lines after them
 abbrev then_lines : Bool → List Piece → List Stretch → List Piece
@@ -48,14 +48,14 @@ begun p b (at q v ∷ ss) = refl
 -- at the end of a line or of the text only the piece that ends there is left
 nothing_left : (m : Mode) (p : ℕ) → on_line m p [] ≡ unended m
 nothing_left (gap early fresh) p = rw (no_comment early fresh 0 refl)
-nothing_left (inside Word early s w) p = rw append-nil
-nothing_left (inside Line early s w) p = rw append-nil
+nothing_left (inside a_word early s w) p = rw append-nil
+nothing_left (inside a_comment early s w) p = rw append-nil
 
 -- the byte LF: the piece ends, and a line begins
 line_ends : (m : Mode) (p q : ℕ) (l : List ℕ) (ls : List Stretch) → ended m 10 ++ by_lines (next_mode m p 10) (at q l ∷ ls) ≡ then_lines (early_in m) (unended m) (at q l ∷ ls)
 line_ends (gap early fresh) p q l ls = refl
-line_ends (inside Word early s w) p q l ls = refl
-line_ends (inside Line early s w) p q l ls = refl
+line_ends (inside a_word early s w) p q l ls = refl
+line_ends (inside a_comment early s w) p q l ls = refl
 
 -- any other byte b belongs to the line, before its rest l
 module _ (p b : ℕ) (l : List ℕ) (ls : List Stretch) (same_line : ends_line b ≡ false) where
@@ -69,9 +69,9 @@ module _ (p b : ℕ) (l : List ℕ) (ls : List Stretch) (same_line : ends_line b
   line_goes_on : (m : Mode) (t : Bool) → parts_words b ≡ t → GoesOn m
   line_goes_on (gap early fresh) true e = rw (e, same_line, no_comment early fresh b (grind (arith, nat_tests)), and_right early false refl)
   line_goes_on (gap early fresh) false e = in_gap early fresh e (opens_comment early fresh b) refl
-  line_goes_on (inside Word early s w) true e = rw (e, same_line, append-nil, and_right (early_after early w) false refl)
-  line_goes_on (inside Word early s w) false e = rw (e, longer s p b w)
-  line_goes_on (inside Line early s w) t e = rw (same_line, append_assoc)
+  line_goes_on (inside a_word early s w) true e = rw (e, same_line, append-nil, and_right (early_after early w) false refl)
+  line_goes_on (inside a_word early s w) false e = rw (e, longer s p b w)
+  line_goes_on (inside a_comment early s w) t e = rw (same_line, append_assoc)
 
 -- stretches begin where the bytes do
 abbrev Begins : ℕ → List Stretch → Type 0

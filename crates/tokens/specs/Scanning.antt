@@ -9,22 +9,22 @@ use Rattle.tokens.specs.Words.{Piece, word, comment, parts_words, ends_line, ear
 
 -- what begins after a gap: a word, or a comment, which is a whole line
 pub data Part : Type 0 where
-  Word : Part
-  Line : Part
+  a_word : Part
+  a_comment : Part
 
 -- a word ends at a byte that parts words, a comment at the end of its line
 abbrev pub part_ends : Part → ℕ → Bool
-part_ends Word b = parts_words b
-part_ends Line b = ends_line b
+part_ends a_word b = parts_words b
+part_ends a_comment b = ends_line b
 
 abbrev pub piece_of : Part → ℕ → List ℕ → Piece
-piece_of Word p w = word p w
-piece_of Line p w = comment p w
+piece_of a_word p w = word p w
+piece_of a_comment p w = comment p w
 
 -- comments may still come after it
 abbrev pub early_past_part : Part → Bool → List ℕ → Bool
-early_past_part Word early w = early_after early w
-early_past_part Line early w = early
+early_past_part a_word early w = early_after early w
+early_past_part a_comment early w = early
 
 -- Where a scan stands: in a gap, `early` while comments may come and `fresh` at
 -- a line's first byte; or inside a word or a comment that began at a place,
@@ -37,7 +37,7 @@ abbrev pub opens_comment : Bool → Bool → ℕ → Bool
 opens_comment early fresh b = early && (fresh && b == 99)
 
 abbrev pub opened : Bool → Bool → ℕ → Part
-opened early fresh b = cond (opens_comment early fresh b) Line Word
+opened early fresh b = cond (opens_comment early fresh b) a_comment a_word
 
 -- where it stands after the byte b at the place p
 abbrev pub next_mode : Mode → ℕ → ℕ → Mode
