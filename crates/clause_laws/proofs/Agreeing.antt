@@ -85,6 +85,9 @@ assigned-listed zero k f h = absurd (omega arith)
 assigned-listed (suc n) zero f h = refl
 assigned-listed (suc n) (suc k) f h = assigned-listed n k (later f) (omega arith)
 
+-- a word and its first n bits give each of the variables 1 to n one value
+pub full-listed : (n k word : ℕ) → n ≤ width → k < n → full word k ≡ assigned (listed n (λ j. bit j word)) k
+full-listed n k word few h = rw (lt-ltb k width (omega arith)) (sym (assigned-listed n k (λ j. bit j word) h))
+
 pub word_assignment : (n : ℕ) (c : Signs) → within n c ≡ true → (word : ℕ) → n ≤ width → JudgedAlike (full word) (assigned (listed n (λ k. bit k word))) c
-word_assignment n c w word few =
-    agreeing n c w (full word) (assigned (listed n (λ k. bit k word))) (λ k h. rw (lt-ltb k width (omega arith)) (sym (assigned-listed n k (λ j. bit j word) h)))
+word_assignment n c w word few = agreeing n c w (full word) (assigned (listed n (λ k. bit k word))) (λ k h. full-listed n k word few h)

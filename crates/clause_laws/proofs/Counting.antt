@@ -44,7 +44,7 @@ pub fit_has : (n : ℕ) (c : Signs) (cs : List Signs) → within n c ≡ true �
 fit_has n c [] w = refl
 fit_has n c (d ∷ cs) w = ap₂ {C = Bool} (λ x y. x || y) (fit_same n c d w) (fit_has n c cs w)
 
-same_self : (c : Signs) → same c c ≡ true
+pub same_self : (c : Signs) → same c c ≡ true
 same_self c = holds_same c c (λ l. refl)
 
 -- ---- sums over the three signs that hold no variable both ways

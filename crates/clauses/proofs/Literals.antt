@@ -147,8 +147,8 @@ empty-length k (sign true q ∷ c) = sym (eqb-suc-zero (length (keep q (negsuc k
 empty-length k (sign false true ∷ c) = sym (eqb-suc-zero (length (literals_from (suc k) c)))
 empty-length k (sign false false ∷ c) = empty-length (suc k) c
 
-pub empty-size : (c : Signs) → empty c ≡ eqb (size c) 0
-empty-size c = empty-length 0 c
+pub empty_size : (c : Signs) → empty c ≡ eqb (size c) 0
+empty_size c = empty-length 0 c
 
 -- ---- under a valuation
 

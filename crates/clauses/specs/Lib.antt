@@ -4,3 +4,4 @@ pub mod Clauses
 pub mod Sets
 pub mod Words
 pub mod Splitting
+pub mod Listing

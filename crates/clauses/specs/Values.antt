@@ -1,6 +1,6 @@
 -- What a valuation says of the variables. Assumes nothing.
 use Rattle.std.specs.Prelude.{ℕ, zero, suc, Bool, true, false, cond, ◌&&◌, List, [], ◌∷◌, nat_lt}
-use Rattle.words.specs.Bits.{width, bit}
+use Rattle.words.specs.Bits.{width, bit, listed}
 use Rattle.clauses.specs.declared.value.Value.{Value}
 use Rattle.clauses.specs.declared.value.Value.TheVariants.{True, False, Unset}
 
@@ -43,3 +43,7 @@ full word k = cond (nat_lt k width) (valued (bit k word)) Unset
 
 abbrev pub partly : ℕ → ℕ → Values
 partly set word k = cond (nat_lt k width && bit k set) (valued (bit k word)) Unset
+
+-- what a word says of the variables 1 to n, as an assignment of these
+unfoldable pub truths : ℕ → ℕ → List Bool
+truths n word = listed n (λ k. bit k word)

@@ -1,7 +1,7 @@
 // A clause as two words, and what it holds.
 ghost use Rattle.std.specs.Prelude.{◌≡◌, [], ◌∷◌, if◌then◌else◌};
 ghost use Rattle.words.specs.Bits.{width};
-ghost use Rattle.clauses.specs.Clauses.{holds, without as but, union as joined, size, literals};
+ghost use Rattle.clauses.specs.Clauses.{holds, without as but, union as joined, size, empty, literals};
 ghost use Rattle.clauses.specs.Sets.{SetOf};
 ghost use Rattle.clauses.specs.Literals.{names};
 ghost use Rattle.clauses.specs.Splitting.{Splits};
@@ -75,6 +75,14 @@ impl Clause {
         ensures value { result ≡ size (signs self.now) }
     {
         sets::count(self.pos) + sets::count(self.neg)
+    }
+
+    // Whether it holds none.
+    #[tactic(auto, using(crate::proofs::Literals::empty_size))]
+    pub fn is_empty(&self) -> bool
+        ensures value { result ≡ empty (signs self.now) }
+    {
+        self.length() == 0
     }
 
     // Its first literal by rising variable, and the clause of the others. The

@@ -3,5 +3,6 @@
 #![tactic(auto)]
 
 pub mod clause;
+pub mod listing;
 pub mod literal;
 pub mod value;

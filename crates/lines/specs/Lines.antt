@@ -8,7 +8,7 @@ use Rattle.clauses.specs.declared.clause.Clause.{Clause}
 use Rattle.lines.specs.declared.line.Origin.{Origin}
 use Rattle.lines.specs.declared.line.Origin.TheVariants.{Given, Resolved, Widened}
 use Rattle.lines.specs.declared.line.Line.{Line}
-use Rattle.std.specs.List.{list_any, list_all}
+use Rattle.std.specs.List.{list_any, list_all, enumerate_from}
 use Rattle.clauses.specs.Clauses.{Signs, clean, within, has, included, same, clash_in, resolvent}
 use Rattle.clauses.specs.Words.{signs}
 
@@ -33,6 +33,23 @@ resolved_line v i j c = record { origin = Resolved v i j; clause = c }
 abbrev pub widened_line : ℕ → Clause → Line
 widened_line i c = record { origin = Widened i; clause = c }
 
+-- A line before its clause stands in words: where it comes from, and its
+-- clause. The steps name the lines that they may write so.
+pub record Candidate : Type 0 where
+  pub origin : Origin
+  pub clause : Signs
+
+abbrev pub candidate_of : Line → Candidate
+candidate_of l = record { origin = l.origin; clause = clause_of l }
+
+-- resolved in v from lines i and j, as they are met
+abbrev pub resolved : ℕ → ℕ → ℕ → Signs → Candidate
+resolved v i j c = record { origin = Resolved v i j; clause = c }
+
+-- widened from line i
+abbrev pub widened : ℕ → Signs → Candidate
+widened i c = record { origin = Widened i; clause = c }
+
 -- the clauses of the given lines
 abbrev pub givens : List Line → List Signs
 givens [] = []
@@ -42,6 +59,10 @@ givens (l ∷ ls) = keep (given l.origin) (clause_of l) (givens ls)
 abbrev pub line : ℕ → List Signs → List Signs
 line zero cs = []
 line (suc k) cs = take 1 (drop k cs)
+
+-- the lines with their numbers, oldest first
+abbrev pub numbered : List Signs → List (ℕ × Signs)
+numbered cs = enumerate_from 1 cs
 
 -- the number of the oldest line that is this clause, where the first is k
 abbrev pub number_from : ℕ → Signs → List Signs → Option ℕ

@@ -4,12 +4,13 @@ use Rattle.std.specs.List.{list_any, list_all}
 use Rattle.clauses.specs.Values.{assigned}
 use Rattle.clauses.specs.Clauses.{Signs, broken, has, clashes, resolvent}
 
--- the resolvent of two clauses that clash in exactly one variable
-abbrev pub in_one : List ℕ → (ℕ → Signs) → List Signs
+-- what f makes of the variable, where there is exactly one
+abbrev pub in_one : {A : Type 0} → List ℕ → (ℕ → A) → List A
 in_one [] f = []
 in_one (v ∷ []) f = f v ∷ []
 in_one (v ∷ w ∷ vs) f = []
 
+-- the resolvent of two clauses that clash in exactly one variable
 abbrev pub resolvents : Signs → Signs → List Signs
 resolvents c d = in_one (clashes c d) (λ v. resolvent v c d)
 

@@ -58,8 +58,8 @@ variables word = numbers 1 width (λ k. bit k word)
 abbrev pub in_word : ℕ → ℕ → Bool
 in_word v word = one_to width v && bit (v - 1) word
 
--- the first of some numbers
-abbrev pub first : List ℕ → Option ℕ
+-- the first of a list
+abbrev pub first : {A : Type 0} → List A → Option A
 first [] = None
 first (v ∷ vs) = Some v
 

@@ -1,5 +1,5 @@
 -- Each law is put together from the lemmas on clauses and their literals. Assumes nothing.
-use Rattle.clauses.proofs.Literals.{holds-literals, size-literals, empty-size, meets-literals, broken-literals, critical-literals, clean-literals, within-holds, holds-within, same-holds, holds_same, included-holds, holds-included}
+use Rattle.clauses.proofs.Literals.{holds-literals, size-literals, empty_size, meets-literals, broken-literals, critical-literals, clean-literals, within-holds, holds-within, same-holds, holds_same, included-holds, holds-included}
 use Rattle.lines.proofs.Numbers.{given-meets, given-size, given-clean, given-within, tautology-met}
 use Rattle.lines.proofs.Resolution.{empty-meets}
 use Rattle.clause_laws.proofs.Agreeing.{agreeing, word_assignment}
@@ -14,7 +14,7 @@ returns c =
       literals = λ d. (λ l. holds-literals l d, size-literals d);
       values = λ m d. (meets-literals m d, broken-literals m d, λ l. critical-literals m l d);
       tests = λ d. (
-        empty-size d,
+        empty_size d,
         clean-literals d,
         λ n. (within-holds n d, holds-within n d),
         λ e. (same-holds d e, holds_same d e),

@@ -1,0 +1,5 @@
+pub mod Rows
+pub mod Ranks
+pub mod Counted
+pub mod Laws
+pub mod Examples

@@ -1,0 +1,9 @@
+pub mod Walks
+pub mod Left
+pub mod New
+pub mod Bars
+pub mod Learnt
+pub mod ReadingOff
+pub mod Chosen
+pub mod Seeing
+pub mod Best

@@ -1,0 +1,3 @@
+pub mod Books
+pub mod Gains
+pub mod Readable
