@@ -2,12 +2,16 @@
 use Rattle.std.specs.Prelude.{◌≡◌, ℕ, ◌+◌, ◌*◌, ◌^◌, ◌<◌, ◌≤◌, Bool, List, [], ◌∷◌, sum, nat_lt}
 use Rattle.guides.specs.Rows.{Counts, count, Fit}
 
--- A guide means a rank: one whole number for each row.
-abbrev pub Rank : Type 0
-Rank = Counts → ℕ
+-- What a guide ranks: one row.
+abbrev pub Ranked : Type 0
+Ranked = Counts
 
--- row a is better than row b: its rank is lower
-abbrev pub better : Rank → Counts → Counts → Bool
+-- A guide means a rank: one whole number for each of them.
+abbrev pub Rank : Type 0
+Rank = Ranked → ℕ
+
+-- a is better than b: its rank is lower
+abbrev pub better : Rank → Ranked → Ranked → Bool
 better rank a b = nat_lt (rank a) (rank b)
 
 -- ---- longest first

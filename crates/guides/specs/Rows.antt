@@ -2,7 +2,7 @@
 use Rattle.std.specs.Prelude.{◌≡◌, ℕ, ◌≤◌, List, length, sum, slice_index}
 use Rattle.guides.specs.declared.row.TheConstants.{LENGTHS, MOST_LINES}
 
--- What a guide ranks. Entry k, from 0 to 64, is the number of broken lines of
+-- The entries of a row: entry k, from 0 to 64, is the number of broken lines of
 -- length k.
 abbrev pub Counts : Type 0
 Counts = List ℕ

@@ -1,7 +1,7 @@
 // What a guide is. Other crates may write guides of their own.
 ghost use Rattle.std.specs.Prelude.{◌≡◌};
 ghost use Rattle.guides.specs.Ranks.{Rank, better};
-ghost use Rattle.guides.specs.Counted.{counts};
+ghost use Rattle.guides.specs.Counted.{ranked_row};
 
 use crate::row::Row;
 
@@ -12,5 +12,5 @@ pub trait Guide {
     // Whether row a is better than row b: its rank is lower. Asking changes
     // nothing.
     fn better(&self, a: &Row, b: &Row) -> bool
-        ensures value { result ≡ better (rank self.now) (counts a.now) (counts b.now) };
+        ensures value { result ≡ better (rank self.now) (ranked_row a.now) (ranked_row b.now) };
 }

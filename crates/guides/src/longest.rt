@@ -1,7 +1,7 @@
 // The guide that looks at the longest broken lines first.
 ghost use Rattle.std.specs.Prelude.{◌≡◌, ◌↔◌, IsTrue};
 ghost use Rattle.guides.specs.Ranks.{better, longest_first, FewerAtTheLongest};
-ghost use Rattle.guides.specs.Counted.{counts};
+ghost use Rattle.guides.specs.Counted.{counts, ranked_row};
 
 use crate::guide::Guide;
 use crate::row::{LENGTHS, Row};
@@ -16,7 +16,7 @@ impl Guide for LongestFirst {
 
     #[tactic(auto, using(crate::proofs::Weights::place_decides, crate::proofs::Weights::equal_beat_neither))]
     fn better(&self, a: &Row, b: &Row) -> bool
-        ensures value { result ≡ better longest_first (counts a.now) (counts b.now) }
+        ensures value { result ≡ better longest_first (ranked_row a.now) (ranked_row b.now) }
         ensures longest { IsTrue result ↔ FewerAtTheLongest (counts a.now) (counts b.now) }
     {
         for k in (0..LENGTHS).rev() {

@@ -9,7 +9,7 @@ use Rattle.lines.specs.Lines.{Candidate}
 use Rattle.lines.specs.ReadingOff.{closed, breaks, read_off}
 use Rattle.guides.specs.Ranks.{Rank}
 use Rattle.steps.specs.Rows.{row}
-use Rattle.steps.specs.Flips.{row_flipped, flips, Best}
+use Rattle.steps.specs.Flips.{ranked_flipped, flips, Best}
 use Rattle.steps.specs.Writing.{learnt, barred, swept}
 use Rattle.steps.specs.Moves.{flip, write, accept, writable, move}
 use Rattle.weighing.proofs.Standing.{length_truths}
@@ -51,7 +51,7 @@ module _ (rank : Rank) (cs : List Signs) (a : List Bool) where
       rw (← h, none) (ap accept (q ∙ ap (λ i. read_off i cs) (sym e)))
 
 -- the flip to the best neighbour goes to a lower rank
-pub flip_helps : (rank : Rank) (cs : List Signs) (n word v : ℕ) → Best rank cs (truths n word) v → (0 < v) × (v ≤ n) × (rank (row_flipped cs (truths n word) v) < rank (row cs (truths n word)))
+pub flip_helps : (rank : Rank) (cs : List Signs) (n word v : ℕ) → Best rank cs (truths n word) v → (0 < v) × (v ≤ n) × (rank (ranked_flipped cs (truths n word) v) < rank (row cs (truths n word)))
 flip_helps rank cs n word v h = (h.named.0, omega (arith, h.named.1, length_truths n word), h.lower)
 
 -- what is read off from a closed book with no empty line breaks none

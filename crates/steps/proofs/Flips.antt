@@ -8,7 +8,7 @@ use Rattle.words.specs.Bits.{first}
 use Rattle.clauses.specs.Clauses.{Signs}
 use Rattle.guides.specs.Ranks.{Rank}
 use Rattle.steps.specs.Rows.{row}
-use Rattle.steps.specs.Flips.{flipped, row_flipped, improves, unbeaten, flips, NoneBetter, Best}
+use Rattle.steps.specs.Flips.{flipped, ranked_flipped, improves, unbeaten, flips, NoneBetter, Best}
 use Rattle.steps.specs.Laws.{ANeighbourDiffersInOne, TheFirstFlipIsTheBest}
 
 -- ---- neighbours
@@ -131,7 +131,7 @@ one_fails p a (suc n) u h k e = go (eqb a u) refl (λ l. one_fails p (a + 1) n u
 module _ (rank : Rank) (cs : List Signs) (a : List Bool) where
   -- the ranks of the neighbours, and of the assignment
   abbrev pub near : ℕ → ℕ
-  near u = rank (row_flipped cs a u)
+  near u = rank (ranked_flipped cs a u)
 
   abbrev pub here : ℕ
   here = rank (row cs a)

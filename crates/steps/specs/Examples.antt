@@ -9,7 +9,7 @@ use Rattle.lines.specs.Lines.{resolved, widened}
 use Rattle.guides.specs.Rows.{count}
 use Rattle.guides.specs.Ranks.{Rank, better, longest_first, fewest_broken}
 use Rattle.steps.specs.Rows.{row}
-use Rattle.steps.specs.Flips.{flipped, row_flipped, flips}
+use Rattle.steps.specs.Flips.{flipped, ranked_flipped, flips}
 use Rattle.steps.specs.Writing.{learnt, swept}
 use Rattle.steps.specs.Moves.{Move, flip, write, accept, move}
 
@@ -157,7 +157,7 @@ Ties =
     (flips longest_first (one_two ∷ []) (false ∷ false ∷ []) ≡ 1 ∷ 2 ∷ [])
     × (move longest_first (one_two ∷ []) (false ∷ false ∷ []) ≡ flip 1)
     × (move longest_first (two_three ∷ []) (false ∷ false ∷ false ∷ []) ≡ flip 2)
-    × (better longest_first (row_flipped (one_two ∷ two ∷ []) (false ∷ false ∷ []) 1) (row (one_two ∷ two ∷ []) (false ∷ false ∷ [])) ≡ true)
+    × (better longest_first (ranked_flipped (one_two ∷ two ∷ []) (false ∷ false ∷ []) 1) (row (one_two ∷ two ∷ []) (false ∷ false ∷ [])) ≡ true)
     × (move longest_first (one_two ∷ two ∷ []) (false ∷ false ∷ []) ≡ flip 2)
     × (move longest_first (one_two ∷ one ∷ not_one_two ∷ not_two ∷ []) (false ∷ false ∷ []) ≡ flip 2)
     × (move fewest_broken (one_two ∷ one ∷ not_one_two ∷ not_two ∷ []) (false ∷ false ∷ []) ≡ flip 1)

@@ -2,11 +2,10 @@
 // is weighed the assignment itself stands flipped.
 ghost use Rattle.std.specs.Prelude.{◌≡◌, bit_xor};
 ghost use Rattle.clauses.specs.Values.{truths};
-ghost use Rattle.guides.specs.Counted.{counts};
+ghost use Rattle.guides.specs.Counted.{ranked_row};
 ghost use Rattle.weighing.specs.Books.{standing};
-ghost use Rattle.steps.specs.Flips.{flipped};
+ghost use Rattle.steps.specs.Flips.{ranked_flipped};
 ghost use Rattle.weighing.specs.Gains.{Gains};
-ghost use Rattle.steps.specs.Rows.{row};
 
 use crate::book::Book;
 use crate::weighing::weigh;
@@ -47,7 +46,7 @@ pub fn weigh_neighbour<G: Guide>(
     guide: &G,
     best: &Row,
 ) -> Option<Row>
-    ensures row { Gains (G.Guide.rank guide.now) (row (standing book.now) (flipped v (truths book.now.n assignment.old.word))) (counts best.now) result }
+    ensures row { Gains (G.Guide.rank guide.now) (ranked_flipped (standing book.now) (truths book.now.n assignment.old.word) v) (ranked_row best.now) result }
     ensures same { assignment.new ≡ assignment.old }
 {
     let bit = sets::one(v);
