@@ -79,34 +79,23 @@ fn walk<C: Clause>(clauses: &[C], n: u32, most: u32, word: &mut u64) -> bool {
     true
 }
 
-#[unsafe(no_mangle)]
-pub unsafe extern "C" fn walk_lines(
-    lines: *const Line,
-    count: usize,
-    n: u32,
-    most: u32,
-    word: &mut u64,
-) -> bool {
-    walk(
-        unsafe { std::slice::from_raw_parts(lines, count) },
-        n,
-        most,
-        word,
-    )
+// The walk over clauses of one kind, as C calls it. The caller vouches for
+// `count` clauses at the pointer.
+macro_rules! exported {
+    ($name:ident, $clause:ty) => {
+        #[unsafe(no_mangle)]
+        pub unsafe extern "C" fn $name(
+            clauses: *const $clause,
+            count: usize,
+            n: u32,
+            most: u32,
+            word: &mut u64,
+        ) -> bool {
+            let clauses = unsafe { std::slice::from_raw_parts(clauses, count) };
+            walk(clauses, n, most, word)
+        }
+    };
 }
 
-#[unsafe(no_mangle)]
-pub unsafe extern "C" fn walk_pairs(
-    pairs: *const Pair,
-    count: usize,
-    n: u32,
-    most: u32,
-    word: &mut u64,
-) -> bool {
-    walk(
-        unsafe { std::slice::from_raw_parts(pairs, count) },
-        n,
-        most,
-        word,
-    )
-}
+exported!(walk_lines, Line);
+exported!(walk_pairs, Pair);

@@ -29,6 +29,7 @@ fn has_empty(lines: &[Line]) -> bool
     lines.iter().any(|line| line.clause().is_empty())
 }
 
+// Looks for an empty line first, and then for a broken one.
 #[tactic(auto, using(crate::proofs::Walks::any_empty, crate::proofs::Walks::found_breaks, crate::proofs::Seeing::refuted, crate::proofs::Seeing::met))]
 pub fn look(book: &Book<'_>, assignment: &Full) -> Seen
     ensures value { result ≡ look_at (standing book.now) (truths book.now.n assignment.now.word) }
