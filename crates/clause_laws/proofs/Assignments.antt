@@ -1,6 +1,7 @@
 -- What an assignment of all variables of a clause says of it. Assumes nothing.
-use Rattle.std.proofs.Common.{◌≡◌, Bool, true, false, not, ◌&&◌, ◌||◌, List, [], ◌∷◌, length, refl, ◌∙◌, ap₂, ⊎_elim}
-use Rattle.std.proofs.lemmas.Bool.{false≢true, true≢false, and_parts, and_cases, or_left, or_right}
+use Rattle.std.proofs.Common.{◌≡◌, Bool, true, false, not, ◌&&◌, ◌||◌, List, [], ◌∷◌, length, sym, refl, ◌∙◌, ap₂, ⊎_elim}
+use Rattle.std.proofs.lemmas.Bool.{false≢true, true≢false, and_parts, and_from, and_cases, or_left, or_right, or_parts, not-false}
+use Rattle.std.specs.List.{list_any, list_all}
 use Rattle.clauses.specs.Values.{valued, assigned}
 use Rattle.clauses.specs.Clauses.{Sign, sign, Signs, absent, one_way, clean, within, true_at, false_at, meets, broken}
 
@@ -56,3 +57,11 @@ broken-or-met [] (s ∷ c) w =
 broken-or-met (b ∷ a) (s ∷ c) w =
     ap₂ {C = Bool} (λ x y. x && y) (valued-false s b) (broken-or-met a c w)
     ∙ neither (true_at s (valued b)) (meets (assigned a) c)
+
+-- where none is broken all are met
+pub all_met : (a : List Bool) (cs : List Signs) → list_all (within (length a)) cs ≡ true → list_any (broken (assigned a)) cs ≡ false → list_all (meets (assigned a)) cs ≡ true
+all_met a [] w h = refl
+all_met a (c ∷ cs) w h =
+    let p = and_parts (within (length a) c) (list_all (within (length a)) cs) w in
+    let q = or_parts (broken (assigned a) c) (list_any (broken (assigned a)) cs) h in
+    and_from (meets (assigned a) c) (list_all (meets (assigned a)) cs) (not-false (meets (assigned a) c) (sym (broken-or-met a c p.0) ∙ q.0)) (all_met a cs p.1 q.1)

@@ -4,11 +4,10 @@ use Rattle.std.proofs.lemmas.Bool.{false≢true, and_parts, and_from, and_left, 
 use Rattle.words.specs.Bits.{keep}
 use Rattle.lines.specs.declared.line.Origin.{Origin}
 use Rattle.lines.specs.declared.line.Origin.TheVariants.{Given, Resolved, Widened}
-use Rattle.lines.specs.declared.line.Line.{Line}
 use Rattle.std.specs.List.{list_any, list_all}
 use Rattle.clauses.specs.Values.{Values}
 use Rattle.clauses.specs.Clauses.{Signs, empty, clean, within, meets, same, included, clash_in, resolvent}
-use Rattle.lines.specs.Lines.{clause_of, clauses, given, givens, line, follows, follow, apart, keeps}
+use Rattle.lines.specs.Lines.{Candidate, clauses_in, given, givens_in, line, follows, follow, apart, keeps_facts}
 use Rattle.std.proofs.lemmas.List.Folds.{list_all-append}
 use Rattle.lines.proofs.Resolution.{empty-meets, same_meets, widening_sound, resolution_sound}
 
@@ -27,10 +26,10 @@ named p q (suc k) cs a h = found p q k cs a h
 
 -- ---- line after line
 
-abbrev sound : Values → Signs → Bool
+abbrev pub sound : Values → Signs → Bool
 sound m c = clean c && meets m c
 
-follows-met :
+pub follows-met :
     (m : Values) (older : List Signs) (o : Origin) (c : Signs)
     → list_all (sound m) older ≡ true → follows older o c ≡ true → (given o ≡ true → meets m c ≡ true) → meets m c ≡ true
 follows-met m older Given c a f h = h refl
@@ -52,24 +51,24 @@ kept_parts true q c cs h = let p = and_parts (q c) (list_all q cs) h in ((λ _. 
 kept_parts false q c cs h = ((λ e. absurd (false≢true e)), h)
 
 follow-met :
-    (m : Values) (older : List Signs) (ls : List Line) → list_all (sound m) older ≡ true → list_all clean (clauses ls) ≡ true → follow older ls ≡ true
-    → list_all (meets m) (givens ls) ≡ true → list_all (meets m) (clauses ls) ≡ true
+    (m : Values) (older : List Signs) (ls : List Candidate) → list_all (sound m) older ≡ true → list_all clean (clauses_in ls) ≡ true → follow older ls ≡ true
+    → list_all (meets m) (givens_in ls) ≡ true → list_all (meets m) (clauses_in ls) ≡ true
 follow-met m older [] a e f h = refl
 follow-met m older (l ∷ ls) a e f h =
-    let c = clause_of l in
-    let p = and_parts (clean c) (list_all clean (clauses ls)) e in
+    let c = l.clause in
+    let p = and_parts (clean c) (list_all clean (clauses_in ls)) e in
     let q = and_parts (follows older l.origin c) (follow (older ++ (c ∷ [])) ls) f in
-    let r = kept_parts (given l.origin) (meets m) c (givens ls) h in
+    let r = kept_parts (given l.origin) (meets m) c (givens_in ls) h in
     let k = follows-met m older l.origin c a q.0 r.0 in
     let n : list_all (sound m) (older ++ (c ∷ [])) ≡ true = rw (list_all-append (sound m) older (c ∷ []), a, p.0, k) refl in
-    and_from (meets m c) (list_all (meets m) (clauses ls)) k (follow-met m (older ++ (c ∷ [])) ls n p.1 q.1 r.1)
+    and_from (meets m c) (list_all (meets m) (clauses_in ls)) k (follow-met m (older ++ (c ∷ [])) ls n p.1 q.1 r.1)
 
-pub given-met : (n : ℕ) (ls : List Line) (m : Values) → keeps n ls ≡ true → list_all (meets m) (givens ls) ≡ true → list_all (meets m) (clauses ls) ≡ true
+pub given-met : (n : ℕ) (ls : List Candidate) (m : Values) → keeps_facts n ls ≡ true → list_all (meets m) (givens_in ls) ≡ true → list_all (meets m) (clauses_in ls) ≡ true
 given-met n ls m k h =
-    let p = and_parts (list_all clean (clauses ls) && apart (clauses ls)) (list_all (within n) (clauses ls) && follow [] ls) k in
+    let p = and_parts (list_all clean (clauses_in ls) && apart (clauses_in ls)) (list_all (within n) (clauses_in ls) && follow [] ls) k in
     follow-met m [] ls refl
-    (and_parts (list_all clean (clauses ls)) (apart (clauses ls)) p.0).0
-    (and_parts (list_all (within n) (clauses ls)) (follow [] ls) p.1).1 h
+    (and_parts (list_all clean (clauses_in ls)) (apart (clauses_in ls)) p.0).0
+    (and_parts (list_all (within n) (clauses_in ls)) (follow [] ls) p.1).1 h
 
 -- ---- an empty line
 
@@ -81,9 +80,9 @@ empty_unmet (c ∷ cs) m h =
     (λ x. and_right (meets m c) (list_all (meets m) cs) (empty_unmet cs m x))
     (or_cases (empty c) (list_any empty cs) h)
 
-pub empty_refutes : (n : ℕ) (ls : List Line) (m : Values) → keeps n ls ≡ true → list_any empty (clauses ls) ≡ true → list_all (meets m) (givens ls) ≡ false
-empty_refutes n ls m k e = go (list_all (meets m) (givens ls)) refl
+pub empty_refutes : (n : ℕ) (ls : List Candidate) (m : Values) → keeps_facts n ls ≡ true → list_any empty (clauses_in ls) ≡ true → list_all (meets m) (givens_in ls) ≡ false
+empty_refutes n ls m k e = go (list_all (meets m) (givens_in ls)) refl
   where
-    go : (b : Bool) → list_all (meets m) (givens ls) ≡ b → b ≡ false
-    go true h = sym (given-met n ls m k h) ∙ empty_unmet (clauses ls) m e
+    go : (b : Bool) → list_all (meets m) (givens_in ls) ≡ b → b ≡ false
+    go true h = sym (given-met n ls m k h) ∙ empty_unmet (clauses_in ls) m e
     go false h = refl

@@ -9,10 +9,9 @@ use Rattle.std.proofs.lemmas.Bool.{false≢true, and_parts, and_from}
 use Rattle.std.proofs.lemmas.Bool.Decides.{Decides-like, Decides-not, Decides-and}
 use Rattle.lines.specs.declared.line.Origin.{Origin}
 use Rattle.lines.specs.declared.line.Origin.TheVariants.{Given, Resolved, Widened}
-use Rattle.lines.specs.declared.line.Line.{Line}
 use Rattle.std.specs.List.{list_any, list_all}
 use Rattle.clauses.specs.Clauses.{sign, Signs, holds, clean, within, same, has, included, clash_in, resolvent}
-use Rattle.lines.specs.Lines.{clause_of, clauses, line, follows, follow, apart, keeps}
+use Rattle.lines.specs.Lines.{Candidate, clauses_in, line, follows, follow, apart, keeps_facts}
 use Rattle.clauses.proofs.Literals.{same-holds, holds_same, included-holds, holds-included, within-holds, holds-within}
 use Rattle.clause_laws.specs.Facts.{line_at, origins, Stands, of_variable, Follows, KeepingIsTheFourFacts}
 use Rattle.clause_laws.proofs.Assignments.{neither}
@@ -147,36 +146,36 @@ decides_follows older (Widened i) c =
     decides_line (λ g. included g c) (λ g. (l : ℤ) → holds l g ≡ true → holds l c ≡ true)
     (λ g. (included-holds g c, holds-included g c)) i older
 
-abbrev FollowsAt : List Signs → List Line → ℕ → Type 0
-FollowsAt older ls i = Follows (older ++ take i (clauses ls)) (get_or (origins ls) i Given) (get_or (clauses ls) i [])
+abbrev FollowsAt : List Signs → List Candidate → ℕ → Type 0
+FollowsAt older ls i = Follows (older ++ take i (clauses_in ls)) (get_or (origins ls) i Given) (get_or (clauses_in ls) i [])
 
-decides_follow : (older : List Signs) (ls : List Line)
-    → Decides (follow older ls) ((i : ℕ) → i < length (clauses ls) → FollowsAt older ls i)
+decides_follow : (older : List Signs) (ls : List Candidate)
+    → Decides (follow older ls) ((i : ℕ) → i < length (clauses_in ls) → FollowsAt older ls i)
 decides_follow older [] = (λ _ i l. absurd (omega arith), λ _. refl)
 decides_follow older (l ∷ ls) =
-    let c = clause_of l in
+    let c = l.clause in
     let next = older ++ (c ∷ []) in
     Decides-like (follow older (l ∷ ls)) to from
     (Decides-and (follows older l.origin c) (follow next ls) (decides_follows older l.origin c) (decides_follow next ls))
   where
-    to : (Follows older l.origin (clause_of l) × ((i : ℕ) → i < length (clauses ls) → FollowsAt (older ++ (clause_of l ∷ [])) ls i))
-        → (i : ℕ) → i < length (clauses (l ∷ ls)) → FollowsAt older (l ∷ ls) i
-    to h zero b = subst (λ cs. Follows cs l.origin (clause_of l)) (sym (append-nil older)) h.0
-    to h (suc i) b = rw (sym (append_assoc older (clause_of l ∷ []) (take i (clauses ls)))) (h.1 i (omega arith))
+    to : (Follows older l.origin l.clause × ((i : ℕ) → i < length (clauses_in ls) → FollowsAt (older ++ (l.clause ∷ [])) ls i))
+        → (i : ℕ) → i < length (clauses_in (l ∷ ls)) → FollowsAt older (l ∷ ls) i
+    to h zero b = subst (λ cs. Follows cs l.origin l.clause) (sym (append-nil older)) h.0
+    to h (suc i) b = rw (sym (append_assoc older (l.clause ∷ []) (take i (clauses_in ls)))) (h.1 i (omega arith))
 
-    from : ((i : ℕ) → i < length (clauses (l ∷ ls)) → FollowsAt older (l ∷ ls) i)
-        → Follows older l.origin (clause_of l) × ((i : ℕ) → i < length (clauses ls) → FollowsAt (older ++ (clause_of l ∷ [])) ls i)
+    from : ((i : ℕ) → i < length (clauses_in (l ∷ ls)) → FollowsAt older (l ∷ ls) i)
+        → Follows older l.origin l.clause × ((i : ℕ) → i < length (clauses_in ls) → FollowsAt (older ++ (l.clause ∷ [])) ls i)
     from h = (
-      subst (λ cs. Follows cs l.origin (clause_of l)) (append-nil older) (h 0 (omega arith)),
-      λ i b. rw (append_assoc older (clause_of l ∷ []) (take i (clauses ls))) (h (suc i) (omega arith)),
+      subst (λ cs. Follows cs l.origin l.clause) (append-nil older) (h 0 (omega arith)),
+      λ i b. rw (append_assoc older (l.clause ∷ []) (take i (clauses_in ls))) (h (suc i) (omega arith)),
     )
 
 -- ---- all four
 
 pub four_facts : KeepingIsTheFourFacts
 four_facts n ls =
-    let cs = clauses ls in
-    Decides-like (keeps n ls)
+    let cs = clauses_in ls in
+    Decides-like (keeps_facts n ls)
     (λ h. record { one_way = λ k v s. h.0.0 k s v; different = h.0.1; within = h.1.0; following = h.1.1 })
     (λ f. ((λ k s v. f.one_way k v s, f.different), (f.within, f.following)))
     (Decides-and (list_all clean cs && apart cs) (list_all (within n) cs && follow [] ls)

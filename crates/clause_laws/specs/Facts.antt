@@ -4,17 +4,16 @@ use Rattle.std.specs.Prelude.{◌≡◌, ℕ, ◌-◌, ◌<◌, ◌≤◌, Bool,
 use Rattle.std.specs.List.Sorted.{IsStrictlyIncreasing}
 use Rattle.lines.specs.declared.line.Origin.{Origin}
 use Rattle.lines.specs.declared.line.Origin.TheVariants.{Given, Resolved, Widened}
-use Rattle.lines.specs.declared.line.Line.{Line}
 use Rattle.std.specs.List.{list_any}
 use Rattle.clauses.specs.Clauses.{Signs, holds, literals, clean, clash_in, clashes, resolvent}
-use Rattle.lines.specs.Lines.{clauses, keeps}
+use Rattle.lines.specs.Lines.{Candidate, clauses_in, keeps_facts}
 
 -- line k, from 1
 abbrev pub line_at : List Signs → ℕ → Signs
 line_at cs k = slice_index_or cs (k - 1) []
 
-abbrev pub origins : List Line → List Origin
-origins ls = map (λ l. l.origin) ls
+abbrev pub origins : List Candidate → List Origin
+origins ls = map (λ (l : Candidate). l.origin) ls
 
 -- there is a line k
 abbrev pub Stands : List Signs → ℕ → Type 0
@@ -35,19 +34,19 @@ Follows older (Resolved v i j) c =
 Follows older (Widened i) c = Stands older i × ((l : ℤ) → holds l (line_at older i) ≡ true → holds l c ≡ true)
 
 -- The four facts of a book over n variables.
-pub record FourFacts (n : ℕ) (ls : List Line) : Type 0 where
+pub record FourFacts (n : ℕ) (ls : List Candidate) : Type 0 where
   -- no line holds a variable both ways
-  pub one_way : (k v : ℕ) → Stands (clauses ls) k → holds (pos v) (line_at (clauses ls) k) ≡ true → holds (neg_ℤ (pos v)) (line_at (clauses ls) k) ≢ true
+  pub one_way : (k v : ℕ) → Stands (clauses_in ls) k → holds (pos v) (line_at (clauses_in ls) k) ≡ true → holds (neg_ℤ (pos v)) (line_at (clauses_in ls) k) ≢ true
   -- no two lines are the same clause
-  pub different : (i j : ℕ) → Stands (clauses ls) i → Stands (clauses ls) j → i < j
-      → ((l : ℤ) → holds l (line_at (clauses ls) i) ≡ holds l (line_at (clauses ls) j)) → ⊥
+  pub different : (i j : ℕ) → Stands (clauses_in ls) i → Stands (clauses_in ls) j → i < j
+      → ((l : ℤ) → holds l (line_at (clauses_in ls) i) ≡ holds l (line_at (clauses_in ls) j)) → ⊥
   -- no variable is above n
-  pub within : (k : ℕ) → Stands (clauses ls) k → (l : ℤ) → holds l (line_at (clauses ls) k) ≡ true → unsigned_abs l ≤ n
+  pub within : (k : ℕ) → Stands (clauses_in ls) k → (l : ℤ) → holds l (line_at (clauses_in ls) k) ≡ true → unsigned_abs l ≤ n
   -- each resolved or widened line follows from the older lines that it names
-  pub following : (k : ℕ) → Stands (clauses ls) k → Follows (take (k - 1) (clauses ls)) (slice_index_or (origins ls) (k - 1) Given) (line_at (clauses ls) k)
+  pub following : (k : ℕ) → Stands (clauses_in ls) k → Follows (take (k - 1) (clauses_in ls)) (slice_index_or (origins ls) (k - 1) Given) (line_at (clauses_in ls) k)
 
 abbrev pub KeepingIsTheFourFacts : Type 0
-KeepingIsTheFourFacts = (n : ℕ) (ls : List Line) → (keeps n ls ≡ true → FourFacts n ls) × (FourFacts n ls → keeps n ls ≡ true)
+KeepingIsTheFourFacts = (n : ℕ) (ls : List Candidate) → (keeps_facts n ls ≡ true → FourFacts n ls) × (FourFacts n ls → keeps_facts n ls ≡ true)
 
 -- The resolvent in v holds just the literals of both but v and -v.
 abbrev pub AResolventHoldsTheRest : Type 0

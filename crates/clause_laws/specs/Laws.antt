@@ -1,13 +1,12 @@
 -- What holds of clauses and books, said of all of them. Assumes nothing.
 use Rattle.std.specs.Prelude.{◌≡◌, ℕ, ◌^◌, ◌<◌, ◌≤◌, Bool, true, false, not, ◌&&◌, ◌||◌, List, length, ℤ, ◌==◌, unsigned_abs}
 use Rattle.words.specs.Bits.{width, bit, listed}
-use Rattle.lines.specs.declared.line.Line.{Line}
 use Rattle.std.specs.List.{list_any, list_all}
 use Rattle.clauses.specs.Values.{Values, is_true, is_false, assigned, full}
 use Rattle.clauses.specs.Sets.{SetOf}
 use Rattle.clauses.specs.Literals.{names, same_literal, value_of, among, met, tautology, set_size}
 use Rattle.clauses.specs.Clauses.{Signs, holds, literals, size, empty, clean, within, meets, broken, same, included, clash_in, resolvent, critical, bar}
-use Rattle.lines.specs.Lines.{clauses, givens, apart, keeps}
+use Rattle.lines.specs.Lines.{Candidate, clauses_in, givens_in, apart, keeps_facts}
 use Rattle.lines.specs.ReadingOff.{closed, breaks, read_off}
 
 -- ---- clauses in terms of their literals
@@ -92,12 +91,12 @@ WideningIsSound = (c d : Signs) (m : Values) → included c d ≡ true → meets
 -- line.
 abbrev pub GivenMetThenAll : Type 0
 GivenMetThenAll =
-    (n : ℕ) (ls : List Line) (m : Values) → keeps n ls ≡ true → list_all (meets m) (givens ls) ≡ true → list_all (meets m) (clauses ls) ≡ true
+    (n : ℕ) (ls : List Candidate) (m : Values) → keeps_facts n ls ≡ true → list_all (meets m) (givens_in ls) ≡ true → list_all (meets m) (clauses_in ls) ≡ true
 
 -- So where a line is empty, nothing meets all given lines.
 abbrev pub EmptyLineRefutes : Type 0
 EmptyLineRefutes =
-    (n : ℕ) (ls : List Line) (m : Values) → keeps n ls ≡ true → list_any empty (clauses ls) ≡ true → list_all (meets m) (givens ls) ≡ false
+    (n : ℕ) (ls : List Candidate) (m : Values) → keeps_facts n ls ≡ true → list_any empty (clauses_in ls) ≡ true → list_all (meets m) (givens_in ls) ≡ false
 
 -- ---- how many
 

@@ -1,6 +1,5 @@
 // A theorem is asked for where a contract names it, so each stands on a
 // function; the functions themselves do nothing.
-ghost use Rattle.clause_laws.specs.Examples.{Resolving, Becoming, Judging, Edges, Reading};
 ghost use Rattle.clause_laws.specs.Facts.{KeepingIsTheFourFacts, AResolventHoldsTheRest, ToldInRisingOrder};
 ghost use Rattle.clause_laws.specs.Laws.{AClauseIsItsLiterals, ValuesJudgeByLiterals, TestsJudgeByLiterals, EdgesAreMetSo, BrokenOrMet, OnlyItsVariablesCount, AGivenClauseIsItsSet, ResolutionIsSound, ResolutionHasNoOrder, WideningIsSound, GivenMetThenAll, EmptyLineRefutes, AtMostThreeToTheN, ReadingOffBreaksNone, TheBarIsBroken};
 
@@ -29,13 +28,4 @@ pub fn books_are_sound()
     ensures empty { EmptyLineRefutes }
     ensures count { AtMostThreeToTheN }
     ensures reading { ReadingOffBreaksNone }
-{}
-
-#[tactic(auto, unfolding(words::specs::Bits::bit, clauses::specs::Clauses::bar, clauses::specs::Sets::set_of, clauses::specs::Words::signs))]
-pub fn examples_hold()
-    ensures resolving { Resolving }
-    ensures becoming { Becoming }
-    ensures judging { Judging }
-    ensures edges { Edges }
-    ensures reading { Reading }
 {}

@@ -1,5 +1,6 @@
-// What is proved of the definitions of clauses and books alone: their laws, and
-// the worked examples.
+// What is proved of the definitions of clauses and books alone: their laws. The
+// worked examples are definitions here; that they hold is proved with all
+// others, in `histories`.
 #![tactic(auto)]
 
 pub mod laws;

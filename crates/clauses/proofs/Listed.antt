@@ -1,10 +1,19 @@
 -- Clauses that are given place by place. Assumes nothing.
 use Rattle.std.proofs.Common.{◌≡◌, ℕ, zero, suc, ◌+◌, ◌<◌, ◌≤◌, Bool, true, false, cond, ◌&&◌, eqb, List, ◌∷◌, length, pos, negsuc, refl, ap, ◌∙◌, ap₂, arith}
 use lib.Dec.{eqb-zero-suc, eqb-suc-zero, eqb-suc-suc}
-use Rattle.words.specs.Bits.{later, every, listed, keep, numbers}
+use Rattle.words.specs.Bits.{bit, later, every, listed, keep, numbers}
 use Rattle.words.proofs.Variables.{listed_same}
-use Rattle.clauses.specs.Values.{Values}
+use Rattle.clauses.specs.Values.{Values, truths}
 use Rattle.clauses.specs.Clauses.{Sign, Signs, blank, one_way, clean, holds_plus, holds_minus, sign_at, literals_from, false_at, broken, same_sign, same, opposed, clashes_from, either, union, changed}
+
+pub length-listed : {X : Type 0} (n : ℕ) (f : ℕ → X) → length (listed n f) ≡ n
+length-listed zero f = refl
+length-listed (suc n) f = ap suc (length-listed n (later f))
+
+-- an assignment of n variables
+pub length_truths : (n word : ℕ) → length (truths n word) ≡ n
+unfolding truths
+length_truths n word = length-listed n (λ k. bit k word)
 
 pub sign-listed : (w : ℕ) (f : ℕ → Sign) (k : ℕ) → k < w → sign_at (listed w f) k ≡ f k
 sign-listed zero f k h = absurd (omega arith)

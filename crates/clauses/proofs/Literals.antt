@@ -268,6 +268,16 @@ holds-within n c h = at-within n c (λ k e. absent_from (sign_at c k) (none (pos
     none : (l : ℤ) → n < nat_abs l → holds l c ≡ false
     none l e = ⊎_elim (λ x. absurd (omega (arith, h l x))) (λ x. x) (cases_Bool (holds l c))
 
+-- with fewer variables, with more
+within_wider : (n m : ℕ) → n ≤ m → (c : Signs) → within n c ≡ true → within m c ≡ true
+within_wider n m h c w = holds-within m c (λ l k. let r = within-holds n c w l k in omega arith)
+
+pub all_wider : (n m : ℕ) → n ≤ m → (cs : List Signs) → list_all (within n) cs ≡ true → list_all (within m) cs ≡ true
+all_wider n m h [] w = refl
+all_wider n m h (c ∷ cs) w =
+    let p = and_parts (within n c) (list_all (within n) cs) w in
+    and_from (within m c) (list_all (within m) cs) (within_wider n m h c p.0) (all_wider n m h cs p.1)
+
 -- ---- two clauses
 
 inside-plus : (s t : Sign) → inside s t ≡ true → holds_plus s ≡ true → holds_plus t ≡ true

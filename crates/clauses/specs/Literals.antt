@@ -7,8 +7,8 @@ use Rattle.clauses.specs.declared.value.Value.TheVariants.{Unset}
 use Rattle.std.specs.List.{list_any}
 use Rattle.clauses.specs.Values.{Values, is_true, contrary}
 
--- A literal is a signed number: v says that variable v is true, -v that it is
--- false. Here it names one of the variables 1 to n.
+-- A literal is a variable with a sign: as v it is true where the variable is, as
+-- -v where the variable is false. Here it names one of the variables 1 to n.
 abbrev pub names : ℕ → ℤ → Bool
 names n l = one_to n (unsigned_abs l)
 

@@ -1,5 +1,5 @@
-// A literal is a signed number: v says that variable v is true, -v that it is
-// false. Any 32-bit number may be asked about.
+// A literal is a variable with a sign: v is true where the variable is, -v where
+// the variable is false. Any 32-bit number may be asked about.
 ghost use Rattle.std.specs.Prelude.{◌≡◌, neg_ℤ, if◌then◌else◌, Some, None, unsigned_abs};
 ghost use Rattle.clauses.specs.Literals.{names, same_literal, lowest_number};
 

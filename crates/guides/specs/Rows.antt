@@ -2,8 +2,8 @@
 use Rattle.std.specs.Prelude.{◌≡◌, ℕ, ◌≤◌, List, length, sum, slice_index}
 use Rattle.guides.specs.declared.row.TheConstants.{LENGTHS, MOST_LINES}
 
--- The entries of a row: entry k, from 0 to 64, is the number of broken lines of
--- length k.
+-- The entries of a row: how many lines of each length are broken, length 0
+-- first, up to 64.
 abbrev pub Counts : Type 0
 Counts = List ℕ
 

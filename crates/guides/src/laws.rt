@@ -1,6 +1,5 @@
 // A theorem is asked for where a contract names it, so each stands on a
 // function; the functions themselves do nothing.
-ghost use Rattle.guides.specs.Examples.{Examples};
 ghost use Rattle.guides.specs.Laws.{LongestFirstReadBothWays, EqualRowsBeatNeitherWay};
 ghost use Rattle.guides.specs.Ranks.{longest_first, PutsLengthFirst};
 
@@ -11,8 +10,4 @@ pub fn ranks_are_sound()
     ensures longest { LongestFirstReadBothWays }
     ensures length { PutsLengthFirst longest_first }
     ensures equal { EqualRowsBeatNeitherWay }
-{}
-
-pub fn examples_hold()
-    ensures examples { Examples }
 {}

@@ -4,3 +4,4 @@ pub mod Found
 pub mod Numbers
 pub mod Gathering
 pub mod Becoming
+pub mod Stated

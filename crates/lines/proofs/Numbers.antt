@@ -28,7 +28,7 @@ any-among t (x ∷ xs) l h e =
     (λ k. or_right (t x) (list_any t xs) (any-among t xs l k e))
     (or_cases (same_literal l x) (among l xs) h)
 
-all_among : (t : ℤ → Bool) (xs : List ℤ) (l : ℤ) → list_all t xs ≡ true → among l xs ≡ true → t l ≡ true
+pub all_among : (t : ℤ → Bool) (xs : List ℤ) (l : ℤ) → list_all t xs ≡ true → among l xs ≡ true → t l ≡ true
 all_among t [] l h k = absurd (false≢true k)
 all_among t (x ∷ xs) l h k =
     let p = and_parts (t x) (list_all t xs) h in
@@ -116,7 +116,7 @@ given-size n xs c h e = size-literals c ∙ set_size-alike (literals c) xs (alik
 pub given-clean : (n : ℕ) (xs : List ℤ) (c : Signs) → list_all (names n) xs ≡ true → SetOf xs c → clean c ≡ not (tautology xs)
 given-clean n xs c h e = clean-literals c ∙ ap not (tautology-alike (literals c) xs (alike-literals xs c e))
 
-names_below : (n : ℕ) (l : ℤ) → names n l ≡ true → nat_abs l ≤ n
+pub names_below : (n : ℕ) (l : ℤ) → names n l ≡ true → nat_abs l ≤ n
 names_below n l h = leb-true (nat_abs l) n (and_parts (ltb 0 (nat_abs l)) (leb (nat_abs l) n) h).1
 
 pub given-within : (n : ℕ) (xs : List ℤ) (c : Signs) → list_all (names n) xs ≡ true → SetOf xs c → within n c ≡ true

@@ -15,8 +15,25 @@ use Rattle.clauses.specs.Words.{signs}
 abbrev pub clause_of : Line → Signs
 clause_of l = signs l.clause
 
+-- A line as the definitions see it: where it comes from, and its clause. The
+-- code keeps the clause in two words.
+pub record Candidate : Type 0 where
+  pub origin : Origin
+  pub clause : Signs
+
+abbrev pub candidate_of : Line → Candidate
+candidate_of l = record { origin = l.origin; clause = clause_of l }
+
+-- the lines of the code's book
+abbrev pub candidates : List Line → List Candidate
+candidates ls = map candidate_of ls
+
+-- the clauses of the lines
+abbrev pub clauses_in : List Candidate → List Signs
+clauses_in ls = map (λ l. l.clause) ls
+
 abbrev pub clauses : List Line → List Signs
-clauses ls = map clause_of ls
+clauses ls = clauses_in (candidates ls)
 
 abbrev pub given : Origin → Bool
 given Given = true
@@ -33,15 +50,6 @@ resolved_line v i j c = record { origin = Resolved v i j; clause = c }
 abbrev pub widened_line : ℕ → Clause → Line
 widened_line i c = record { origin = Widened i; clause = c }
 
--- A line before its clause stands in words: where it comes from, and its
--- clause. The steps name the lines that they may write so.
-pub record Candidate : Type 0 where
-  pub origin : Origin
-  pub clause : Signs
-
-abbrev pub candidate_of : Line → Candidate
-candidate_of l = record { origin = l.origin; clause = clause_of l }
-
 -- resolved in v from lines i and j, as they are met
 abbrev pub resolved : ℕ → ℕ → ℕ → Signs → Candidate
 resolved v i j c = record { origin = Resolved v i j; clause = c }
@@ -50,10 +58,17 @@ resolved v i j c = record { origin = Resolved v i j; clause = c }
 abbrev pub widened : ℕ → Signs → Candidate
 widened i c = record { origin = Widened i; clause = c }
 
+-- a given line
+abbrev pub given_clause : Signs → Candidate
+given_clause c = record { origin = Given; clause = c }
+
 -- the clauses of the given lines
+abbrev pub givens_in : List Candidate → List Signs
+givens_in [] = []
+givens_in (l ∷ ls) = keep (given l.origin) l.clause (givens_in ls)
+
 abbrev pub givens : List Line → List Signs
-givens [] = []
-givens (l ∷ ls) = keep (given l.origin) (clause_of l) (givens ls)
+givens ls = givens_in (candidates ls)
 
 -- the clause of line k, if there is such a line
 abbrev pub line : ℕ → List Signs → List Signs
@@ -81,17 +96,20 @@ follows older (Resolved v i j) c = list_any (λ g. list_any (λ h. clash_in v g 
 follows older (Widened i) c = list_any (λ g. included g c) (line i older)
 
 -- each line follows from those before it
-abbrev pub follow : List Signs → List Line → Bool
+abbrev pub follow : List Signs → List Candidate → Bool
 follow older [] = true
-follow older (l ∷ ls) = follows older l.origin (clause_of l) && follow (older ++ (clause_of l ∷ [])) ls
+follow older (l ∷ ls) = follows older l.origin l.clause && follow (older ++ (l.clause ∷ [])) ls
 
 -- no two are the same clause
 abbrev pub apart : List Signs → Bool
 apart [] = true
 apart (c ∷ cs) = not (has c cs) && apart cs
 
--- The four facts of a book over n variables: no line holds a variable both
--- ways; no two lines are the same clause; no variable is above n; each
--- resolved or widened line follows from the older lines that it names.
+-- The four facts that every book over n variables keeps: a line holds each
+-- variable in one way at most; all lines are different clauses; variables are 1
+-- to n; a line that is not given follows from the older ones that it names.
+abbrev pub keeps_facts : ℕ → List Candidate → Bool
+keeps_facts n ls = (list_all clean (clauses_in ls) && apart (clauses_in ls)) && (list_all (within n) (clauses_in ls) && follow [] ls)
+
 abbrev pub keeps : ℕ → List Line → Bool
-keeps n ls = (list_all clean (clauses ls) && apart (clauses ls)) && (list_all (within n) (clauses ls) && follow [] ls)
+keeps n ls = keeps_facts n (candidates ls)

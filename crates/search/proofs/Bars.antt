@@ -18,7 +18,7 @@ use Rattle.steps.proofs.Written.{barred_keeps}
 use Rattle.weighing.specs.declared.book.Book.{Book}
 use Rattle.weighing.specs.Books.{standing}
 use Rattle.weighing.proofs.Standing.{broken_so}
-use Rattle.weighing.proofs.Standing.{length_truths}
+use Rattle.clauses.proofs.Listed.{length_truths}
 use Rattle.search.specs.Laws.{KeepsTheFacts}
 
 -- the word and the assignment break the same lines

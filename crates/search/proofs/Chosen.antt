@@ -12,7 +12,7 @@ use Rattle.steps.specs.Rows.{row}
 use Rattle.steps.specs.Flips.{ranked_flipped, flips, Best}
 use Rattle.steps.specs.Writing.{learnt, barred, swept}
 use Rattle.steps.specs.Moves.{flip, write, accept, writable, move}
-use Rattle.weighing.proofs.Standing.{length_truths}
+use Rattle.clauses.proofs.Listed.{length_truths}
 use Rattle.search.proofs.Left.{first-append}
 use Rattle.search.specs.Laws.{Closed}
 

@@ -5,7 +5,8 @@ use Rattle.std.specs.Int.{w32}
 use Rattle.std.specs.List.{flat_map, list_all}
 use Rattle.std.proofs.lemmas.Bool.{and_parts}
 use Rattle.std.proofs.lemmas.Int.{ints, to_z-of_z, fits_signed_from_abs}
-use Rattle.std.proofs.lemmas.List.{append-nil, append_assoc, length-map}
+use Rattle.std.proofs.lemmas.List.{append-nil, append_assoc}
+use Rattle.lines.proofs.Stated.{length-clauses}
 use Rattle.std.proofs.lemmas.List.Sums.{list_all-from_AllPass}
 use Rattle.words.specs.Bits.{width, first}
 use Rattle.clauses.specs.declared.clause.Clause.{Clause}
@@ -14,14 +15,14 @@ use Rattle.clauses.specs.Clauses.{Signs, holds, literals, within, broken, critic
 use Rattle.clauses.specs.Words.{signs}
 use Rattle.clauses.proofs.Literals.{within-holds}
 use Rattle.lines.specs.declared.line.Line.{Line}
-use Rattle.lines.specs.Lines.{Candidate, candidate_of, clause_of, numbered, keeps}
+use Rattle.lines.specs.Lines.{Candidate, candidate_of, numbered, keeps}
 use Rattle.steps.specs.Writing.{from_pair, from_literal, from_line, resolved_from, learnt}
 use Rattle.steps.proofs.Clashing.{critical-clashes, literals_held}
 use Rattle.steps.proofs.Written.{learnt_keeps}
 use Rattle.weighing.specs.declared.book.Book.{Book}
 use Rattle.weighing.specs.Books.{standing}
 use Rattle.weighing.proofs.Standing.{all-at, reads-clause, reads-broken, reads-critical}
-use Rattle.weighing.proofs.Standing.{length_truths}
+use Rattle.clauses.proofs.Listed.{length_truths}
 use Rattle.search.specs.Laws.{KeepsTheFacts}
 use Rattle.search.proofs.Left.{left, at, candidates_more, flat_map-filter, none-empty, first_found}
 
@@ -114,7 +115,7 @@ module _ (book : Book) (word : ℕ) where
   a = truths book.n word
 
   inside : (i : ℕ) → i < length book.lines.now → i < length cs
-  inside i h = rw (length-map book.lines.now clause_of) h
+  inside i h = rw (length-clauses book.lines.now) h
 
   -- what the code reads of the line at index i
   module _ (whole after : List Candidate) (i : ℕ) (d : Line) (c : Clause) (h : i < length book.lines.now) (e : c ≡ (get_or book.lines.now i d).clause) where

@@ -17,7 +17,8 @@ use weighing::book::Book;
 // The clause of all literals of the variables 1 to n that are false now,
 // widened from the oldest broken line, if it is not in the book.
 pub fn bar(book: &Book<'_>, assignment: &Full) -> Option<Line>
-    ensures value { option_map candidate_of result ≡ first (barred (standing book.now) (truths book.now.n assignment.now.word)) }
+    ensures value { option_map candidate_of result
+        ≡ first (barred (standing book.now) (truths book.now.n assignment.now.word)) }
     ensures keeps { IfSome result (KeepsTheFacts book.now.n book.now.lines.now) }
     ensures broken { IfSome result (IsBroken (truths book.now.n assignment.now.word)) }
 {

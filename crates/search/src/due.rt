@@ -25,10 +25,12 @@ pub enum Step {
 }
 
 // The first of the five that applies.
-#[tactic(auto, using(crate::proofs::Chosen::flip_is_due, crate::proofs::Chosen::learn_is_due, crate::proofs::Chosen::bar_is_due, crate::proofs::Chosen::sweep_is_due, crate::proofs::Chosen::reading_is_due, weighing::proofs::Standing::length_truths, crate::proofs::Chosen::read_off_breaks_none))]
+#[tactic(auto, using(crate::proofs::Chosen::flip_is_due, crate::proofs::Chosen::learn_is_due, crate::proofs::Chosen::bar_is_due, crate::proofs::Chosen::sweep_is_due, crate::proofs::Chosen::reading_is_due, clauses::proofs::Listed::length_truths, crate::proofs::Chosen::read_off_breaks_none))]
 pub fn due<G: Guide>(book: &Book<'_>, assignment: &mut Full, guide: &G) -> Step
-    ensures value { move_of book.now.n result ≡ move (G.Guide.rank guide.now) (standing book.now) (truths book.now.n assignment.old.word) }
-    ensures helps { Helps (G.Guide.rank guide.now) book.now.n book.now.lines.now (truths book.now.n assignment.old.word) result }
+    ensures value { move_of book.now.n result ≡ move (G.Guide.rank guide.now)
+        (standing book.now) (truths book.now.n assignment.old.word) }
+    ensures helps { Helps (G.Guide.rank guide.now) book.now.n book.now.lines.now
+        (truths book.now.n assignment.old.word) result }
     ensures same { assignment.new ≡ assignment.old }
 {
     if let Some(v) = flip(book, assignment, guide) {

@@ -14,8 +14,11 @@ use weighing::weighing::weigh;
 // The variable to flip: of the neighbours that are better than the assignment
 // one with the lowest rank, and among equals the lowest variable.
 pub fn flip<G: Guide>(book: &Book<'_>, assignment: &mut Full, guide: &G) -> Option<u32>
-    ensures value { result ≡ first (flips (G.Guide.rank guide.now) (standing book.now) (truths book.now.n assignment.old.word)) }
-    ensures best { let a = truths book.now.n assignment.old.word in let rank = G.Guide.rank guide.now in MatchOption result (NoneBetter rank (standing book.now) a) (Best rank (standing book.now) a) }
+    ensures value { result ≡ first (flips (G.Guide.rank guide.now)
+        (standing book.now) (truths book.now.n assignment.old.word)) }
+    ensures best { let a = truths book.now.n assignment.old.word in
+        let rank = G.Guide.rank guide.now in
+        MatchOption result (NoneBetter rank (standing book.now) a) (Best rank (standing book.now) a) }
     ensures same { assignment.new ≡ assignment.old }
 {
     let mut best_row = weigh(book, assignment);

@@ -13,11 +13,13 @@ use valuations::judging::{is_broken, is_critical};
 use valuations::valuation::Full;
 use weighing::book::Book;
 
-// The line to learn: broken lines g, oldest first; the variables of g, rising;
-// lines h critical on the opposite literal, oldest first; the first resolvent
-// of g and h that is not in the book.
+// The line to learn: for each broken line g from the oldest on, for each of its
+// variables from the lowest on, each line h that is critical on the literal
+// that g lacks there, again from the oldest on. The first of their resolvents
+// that is new to the book.
 pub fn learn(book: &Book<'_>, assignment: &Full) -> Option<Line>
-    ensures value { option_map candidate_of result ≡ first (learnt (standing book.now) (truths book.now.n assignment.now.word)) }
+    ensures value { option_map candidate_of result
+        ≡ first (learnt (standing book.now) (truths book.now.n assignment.now.word)) }
     ensures keeps { IfSome result (KeepsTheFacts book.now.n book.now.lines.now) }
     ensures broken { IfSome result (IsBroken (truths book.now.n assignment.now.word)) }
 {

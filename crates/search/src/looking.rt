@@ -33,7 +33,8 @@ fn has_empty(lines: &[Line]) -> bool
 #[tactic(auto, using(crate::proofs::Walks::any_empty, crate::proofs::Walks::found_breaks, crate::proofs::Seeing::refuted, crate::proofs::Seeing::met))]
 pub fn look(book: &Book<'_>, assignment: &Full) -> Seen
     ensures value { result ≡ look_at (standing book.now) (truths book.now.n assignment.now.word) }
-    ensures means { Means book.now.n book.now.lines.now (truths book.now.n assignment.now.word) result }
+    ensures means { Means book.now.n book.now.lines.now
+        (truths book.now.n assignment.now.word) result }
 {
     if has_empty(book.lines) {
         return Seen::Refuted;

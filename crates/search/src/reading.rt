@@ -9,8 +9,8 @@ use valuations::valuation::{Full, Partial};
 use weighing::book::Book;
 use words::sets;
 
-// In turn, each variable from 1 to n is set true, or false if true breaks a
-// line; later variables are still unset.
+// Variable after variable, from 1 to n: true, unless that would break a line
+// while the variables behind it are unset; then false.
 pub fn read_off(book: &Book<'_>) -> Full
     ensures value { truths book.now.n result.word ≡ off book.now.n (standing book.now) }
     ensures within { result.word < 2 ^ book.now.n }

@@ -10,8 +10,8 @@ use crate::resolving::new_resolvent;
 use lines::line::Line;
 use weighing::book::Book;
 
-// Pairs i below j, i rising, then j rising, that clash in exactly one
-// variable: the first resolvent that is not in the book.
+// Of all pairs of lines that clash in just one variable, by the older line and
+// then by the younger: the first resolvent that is new to the book.
 pub fn sweep(book: &Book<'_>) -> Option<Line>
     ensures value { option_map candidate_of result ≡ first (swept (standing book.now)) }
     ensures keeps { IfSome result (KeepsTheFacts book.now.n book.now.lines.now) }

@@ -14,7 +14,8 @@ use weighing::book::Book;
 // The index of the oldest line that the valuation breaks. A function of its
 // own: with the number in one body the proof is not found.
 fn walk<V: Valuation>(lines: &[Line], valuation: &V) -> Option<usize>
-    ensures value { result ≡ position (λ l. broken (V.Valuation.values valuation.now) (clause_of l)) lines.now }
+    ensures value { result
+        ≡ position (λ l. broken (V.Valuation.values valuation.now) (clause_of l)) lines.now }
     ensures bound { IfSome result (λ i. i < length lines.now) }
 {
     lines

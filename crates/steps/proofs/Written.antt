@@ -15,7 +15,7 @@ use Rattle.clauses.proofs.Contrary.{false-contrary}
 use Rattle.clauses.proofs.Tests.{iff}
 use Rattle.clauses.proofs.Literals.{same-holds, holds_same, holds-within}
 use Rattle.lines.specs.declared.line.Line.{Line}
-use Rattle.lines.specs.Lines.{Candidate, candidate_of, clause_of, clauses, line, follows, follow, apart, keeps, resolved}
+use Rattle.lines.specs.Lines.{Candidate, candidate_of, candidates, clauses, clauses_in, line, follows, follow, apart, keeps, keeps_facts, resolved}
 use Rattle.lines.proofs.Resolution.{sole_clash}
 use Rattle.clause_laws.proofs.Bar.{bar-broken}
 use Rattle.clause_laws.proofs.Counting.{same_self}
@@ -39,7 +39,7 @@ same_order c d = iff (same c d) (same d c) (turn c d) (turn d c)
     turn : (x y : Signs) → same x y ≡ true → same y x ≡ true
     turn x y e = holds_same y x (λ l. sym (same-holds x y e l))
 
-apart_more : (cs : List Signs) (c : Signs) → apart cs ≡ true → has c cs ≡ false → apart (cs ++ (c ∷ [])) ≡ true
+pub apart_more : (cs : List Signs) (c : Signs) → apart cs ≡ true → has c cs ≡ false → apart (cs ++ (c ∷ [])) ≡ true
 apart_more [] c a n = refl
 apart_more (d ∷ cs) c a n =
     let p = and_parts (not (has d cs)) (apart cs) a in
@@ -48,29 +48,34 @@ apart_more (d ∷ cs) c a n =
     let none : has d (cs ++ (c ∷ [])) ≡ false = list_any-append (same d) cs (c ∷ []) ∙ or_from (has d cs) (same d c || false) (not-true (has d cs) p.0) last in
     and_from (not (has d (cs ++ (c ∷ [])))) (apart (cs ++ (c ∷ []))) (not_from_false _ none) (apart_more cs c p.1 q.1)
 
-follow_more : (older : List Signs) (ls : List Line) (l : Line) → follow older ls ≡ true → follows (older ++ clauses ls) l.origin (clause_of l) ≡ true → follow older (ls ++ (l ∷ [])) ≡ true
-follow_more older [] l f h = and_from (follows older l.origin (clause_of l)) true (subst (λ cs. follows cs l.origin (clause_of l) ≡ true) (append-nil older) h) refl
+follow_more : (older : List Signs) (ls : List Candidate) (l : Candidate) → follow older ls ≡ true → follows (older ++ clauses_in ls) l.origin l.clause ≡ true → follow older (ls ++ (l ∷ [])) ≡ true
+follow_more older [] l f h = and_from (follows older l.origin l.clause) true (subst (λ cs. follows cs l.origin l.clause ≡ true) (append-nil older) h) refl
 follow_more older (k ∷ ls) l f h =
-    let c = clause_of k in
+    let c = k.clause in
     let p = and_parts (follows older k.origin c) (follow (older ++ (c ∷ [])) ls) f in
     and_from (follows older k.origin c) (follow (older ++ (c ∷ [])) (ls ++ (l ∷ []))) p.0
-    (follow_more (older ++ (c ∷ [])) ls l p.1 (subst (λ cs. follows cs l.origin (clause_of l) ≡ true) (sym (append_assoc older (c ∷ []) (clauses ls))) h))
+    (follow_more (older ++ (c ∷ [])) ls l p.1 (subst (λ cs. follows cs l.origin l.clause ≡ true) (sym (append_assoc older (c ∷ []) (clauses_in ls))) h))
 
-all_more : (t : Signs → Bool) (cs : List Signs) (c : Signs) → list_all t cs ≡ true → t c ≡ true → list_all t (cs ++ (c ∷ [])) ≡ true
+pub all_more : (t : Signs → Bool) (cs : List Signs) (c : Signs) → list_all t cs ≡ true → t c ≡ true → list_all t (cs ++ (c ∷ [])) ≡ true
 all_more t cs c a h = list_all-append t cs (c ∷ []) ∙ and_from (list_all t cs) (t c && true) a (and_from (t c) true h refl)
 
-pub sound_keeps : (n : ℕ) (ls : List Line) (l : Line) → keeps n ls ≡ true → Sound n (clauses ls) (candidate_of l) → keeps n (ls ++ (l ∷ [])) ≡ true
+pub sound_keeps : (n : ℕ) (ls : List Candidate) (l : Candidate) → keeps_facts n ls ≡ true → Sound n (clauses_in ls) l → keeps_facts n (ls ++ (l ∷ [])) ≡ true
 sound_keeps n ls l k s =
-    let cs = clauses ls in
-    let c = clause_of l in
+    let cs = clauses_in ls in
+    let c = l.clause in
     let p = and_parts (list_all clean cs && apart cs) (list_all (within n) cs && follow [] ls) k in
     let q = and_parts (list_all clean cs) (apart cs) p.0 in
     let r = and_parts (list_all (within n) cs) (follow [] ls) p.1 in
-    let more : clauses (ls ++ (l ∷ [])) ≡ cs ++ (c ∷ []) = map-append clause_of ls (l ∷ []) in
+    let more : clauses_in (ls ++ (l ∷ [])) ≡ cs ++ (c ∷ []) = map-append (λ (k : Candidate). k.clause) ls (l ∷ []) in
     rw more
     (and_from (list_all clean (cs ++ (c ∷ [])) && apart (cs ++ (c ∷ []))) (list_all (within n) (cs ++ (c ∷ [])) && follow [] (ls ++ (l ∷ [])))
     (and_from (list_all clean (cs ++ (c ∷ []))) (apart (cs ++ (c ∷ []))) (all_more clean cs c q.0 s.one_way) (apart_more cs c q.1 s.new))
     (and_from (list_all (within n) (cs ++ (c ∷ []))) (follow [] (ls ++ (l ∷ []))) (all_more (within n) cs c r.0 s.within_n) (follow_more [] ls l r.1 s.following)))
+
+-- the same of the code's lines
+pub line_keeps : (n : ℕ) (ls : List Line) (l : Line) → keeps n ls ≡ true → Sound n (clauses ls) (candidate_of l) → keeps n (ls ++ (l ∷ [])) ≡ true
+line_keeps n ls l k s =
+    subst (λ (cs : List Candidate). keeps_facts n cs ≡ true) (sym (map-append candidate_of ls (l ∷ []))) (sound_keeps n (candidates ls) (candidate_of l) k s)
 
 -- ---- what it follows from
 
@@ -137,36 +142,36 @@ barred_sound cs a few =
       following = passes_one (λ c. included c b) g.1 (line g.0 cs) x.0 ((bar-broken a few).3 g.1 e);
     })
 
-kept_parts : (n : ℕ) (ls : List Line) → keeps n ls ≡ true → (list_all clean (clauses ls) ≡ true) × (list_all (within n) (clauses ls) ≡ true)
+kept_parts : (n : ℕ) (ls : List Candidate) → keeps_facts n ls ≡ true → (list_all clean (clauses_in ls) ≡ true) × (list_all (within n) (clauses_in ls) ≡ true)
 kept_parts n ls k =
-    let p = and_parts (list_all clean (clauses ls) && apart (clauses ls)) (list_all (within n) (clauses ls) && follow [] ls) k in
-    ((and_parts (list_all clean (clauses ls)) (apart (clauses ls)) p.0).0, (and_parts (list_all (within n) (clauses ls)) (follow [] ls) p.1).0)
+    let p = and_parts (list_all clean (clauses_in ls) && apart (clauses_in ls)) (list_all (within n) (clauses_in ls) && follow [] ls) k in
+    ((and_parts (list_all clean (clauses_in ls)) (apart (clauses_in ls)) p.0).0, (and_parts (list_all (within n) (clauses_in ls)) (follow [] ls) p.1).0)
 
 pub written_keeps : WhatIsWrittenKeepsTheFacts
-written_keeps ls a k few i d b l e =
-    let cs = clauses ls in
+written_keeps ls a k few i d b =
+    let cs = clauses_in ls in
     let p = kept_parts (length a) ls k in
     let Q = Sound (length a) cs in
     let later = All-append Q (barred cs a) (swept cs) (barred_sound cs a few) (swept_sound (length a) cs p.0 p.1) in
     let all = All-append Q (learnt cs a) (barred cs a ++ swept cs) (learnt_sound (length a) cs p.0 p.1 a) later in
-    sound_keeps (length a) ls l k (subst Q (sym e) (all i d b))
+    sound_keeps (length a) ls _ k (all i d b)
 
 -- ---- the first of each
 
 pub learnt_keeps : (ls : List Line) (a : List Bool) (l : Line) → keeps (length a) ls ≡ true → first (learnt (clauses ls) a) ≡ Some (candidate_of l)
     → keeps (length a) (ls ++ (l ∷ [])) ≡ true
 learnt_keeps ls a l k e =
-    let p = kept_parts (length a) ls k in
-    sound_keeps (length a) ls l k (All-first (Sound (length a) (clauses ls)) _ _ (learnt_sound (length a) (clauses ls) p.0 p.1 a) e)
+    let p = kept_parts (length a) (candidates ls) k in
+    line_keeps (length a) ls l k (All-first (Sound (length a) (clauses ls)) _ _ (learnt_sound (length a) (clauses ls) p.0 p.1 a) e)
 
 pub barred_keeps : (ls : List Line) (a : List Bool) (l : Line) → keeps (length a) ls ≡ true → length a ≤ width → first (barred (clauses ls) a) ≡ Some (candidate_of l)
     → keeps (length a) (ls ++ (l ∷ [])) ≡ true
-barred_keeps ls a l k few e = sound_keeps (length a) ls l k (All-first (Sound (length a) (clauses ls)) _ _ (barred_sound (clauses ls) a few) e)
+barred_keeps ls a l k few e = line_keeps (length a) ls l k (All-first (Sound (length a) (clauses ls)) _ _ (barred_sound (clauses ls) a few) e)
 
 pub swept_keeps : (n : ℕ) (ls : List Line) (l : Line) → keeps n ls ≡ true → first (swept (clauses ls)) ≡ Some (candidate_of l) → keeps n (ls ++ (l ∷ [])) ≡ true
 swept_keeps n ls l k e =
-    let p = kept_parts n ls k in
-    sound_keeps n ls l k (All-first (Sound n (clauses ls)) _ _ (swept_sound n (clauses ls) p.0 p.1) e)
+    let p = kept_parts n (candidates ls) k in
+    line_keeps n ls l k (All-first (Sound n (clauses ls)) _ _ (swept_sound n (clauses ls) p.0 p.1) e)
 
 -- ---- what is broken now
 

@@ -3,10 +3,9 @@
 use Rattle.std.specs.Prelude.{◌≡◌, ℕ, ◌+◌, ◌<◌, ◌≤◌, Bool, true, false, not, List, [], ◌∷◌, ◌++◌, length, sum, count_by, ◌==◌, All, MatchOption, slice_index_or, if◌then◌else◌}
 use Rattle.std.specs.List.{list_all, list_any}
 use Rattle.words.specs.Bits.{width, first}
-use Rattle.lines.specs.declared.line.Line.{Line}
 use Rattle.clauses.specs.Values.{assigned}
 use Rattle.clauses.specs.Clauses.{Signs, empty, clean, within, broken}
-use Rattle.lines.specs.Lines.{candidate_of, clauses, keeps}
+use Rattle.lines.specs.Lines.{Candidate, clauses_in, keeps_facts}
 use Rattle.lines.specs.ReadingOff.{closed, breaks, read_off}
 use Rattle.guides.specs.declared.row.TheConstants.{LENGTHS}
 use Rattle.guides.specs.Rows.{count}
@@ -55,8 +54,8 @@ TheFirstFlipIsTheBest = (rank : Rank) (cs : List Signs) (a : List Bool) → Matc
 -- ways, and follows from the lines that it names.
 abbrev pub WhatIsWrittenKeepsTheFacts : Type 0
 WhatIsWrittenKeepsTheFacts =
-    (ls : List Line) (a : List Bool) → keeps (length a) ls ≡ true → length a ≤ width
-    → All (λ c. (l : Line) → candidate_of l ≡ c → keeps (length a) (ls ++ (l ∷ [])) ≡ true) (writable (clauses ls) a)
+    (ls : List Candidate) (a : List Bool) → keeps_facts (length a) ls ≡ true → length a ≤ width
+    → All (λ l. keeps_facts (length a) (ls ++ (l ∷ [])) ≡ true) (writable (clauses_in ls) a)
 
 -- What is learnt or barred is broken now.
 abbrev pub LearntAndBarredAreBroken : Type 0

@@ -23,8 +23,7 @@ chosen (Some v) l r = flip v
 chosen None (Some l) r = write l
 chosen None None r = accept r
 
--- A flip, else a line to write, else the assignment read off: 5. Read off. In
--- turn, each variable is set true, or false if true breaks a line; later
--- variables are still unset.
+-- A flip, else a line to write, else 5. Read off: variable after variable is set
+-- true, unless that breaks a line while those behind it are unset; then false.
 unfoldable pub move : Rank → List Signs → List Bool → Move
 move rank cs a = chosen (first (flips rank cs a)) (first (writable cs a)) (read_off (length a) cs)

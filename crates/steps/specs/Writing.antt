@@ -50,18 +50,18 @@ from_literal cs a g l = flat_map (from_pair cs g l) (critical_lines cs a (neg_�
 abbrev pub from_line : List Signs → List Bool → ℕ × Signs → List Candidate
 from_line cs a g = flat_map (from_literal cs a g) (literals g.1)
 
--- 2. Learn. Broken lines g, oldest first; the variables of g, rising, each by
--- the literal that g holds; lines h critical on the opposite literal, oldest
--- first: the resolvent of g and h.
+-- 2. Learn. For each broken line g from the oldest on, for each literal that it
+-- holds by rising variable, for each line h that is critical on its opposite,
+-- again from the oldest on: the resolvent of g and h.
 unfoldable pub learnt : List Signs → List Bool → List Candidate
 learnt cs a = flat_map (from_line cs a) (broken_lines cs a)
 
--- 3. Bar. The clause of all n literals that are false now, widened from a
--- broken line, the oldest first.
+-- 3. Bar. Of each variable the literal that is false now, all n in one clause: it
+-- is widened from a broken line, the oldest first.
 unfoldable pub barred : List Signs → List Bool → List Candidate
 barred cs a = flat_map (λ g. fresh cs (widened g.0 (bar (length a) (assigned a)))) (broken_lines cs a)
 
--- 4. Sweep. Pairs i below j, i rising, then j rising, that clash in exactly
--- one variable: their resolvent.
+-- 4. Sweep. Of each pair of lines that clash in just one variable, by the older
+-- line and then by the younger, the resolvent.
 unfoldable pub swept : List Signs → List Candidate
 swept cs = flat_map (λ i. flat_map (resolved_from cs i) (younger cs i.0)) (numbered cs)

@@ -3,15 +3,16 @@ use Rattle.std.specs.Prelude.{ℕ, Some, None, Option}
 use Rattle.text.specs.declared.faults.TextFault.{TextFault}
 use Rattle.text.specs.declared.faults.TextFault.TheVariants.{TooLong, NotProblemLine, TooLarge, NotNumber, AboveVariables, EndsInsideClause, WordAfterClauses, ClausesMissing}
 use Rattle.text.specs.declared.faults.BookFault.{BookFault}
-use Rattle.text.specs.declared.faults.BookFault.TheVariants.{TooManyLiterals}
+use Rattle.text.specs.declared.faults.BookFault.TheVariants.{TooManyLiterals, NoFreePlace}
 use Rattle.text.specs.declared.faults.ReadFault.{ReadFault}
 use Rattle.text.specs.declared.faults.ReadFault.TheVariants.{Text, Book}
 
--- the text itself, the book that its clauses go to, or the program that reads it
+-- the text itself, the book that its clauses go to, or the session whose book
+-- it is
 pub data Refuser : Type 0 where
   the_text : Refuser
   the_book : Refuser
-  the_program : Refuser
+  the_session : Refuser
 
 -- a refusal as it is told: place is the byte place, counted from 0
 pub data Refusal : Type 0 where
@@ -29,6 +30,7 @@ text_refusal (ClausesMissing place) = refusal the_text 16 place
 
 abbrev pub book_refusal : BookFault → Refusal
 book_refusal (TooManyLiterals place) = refusal the_book 6 place
+book_refusal (NoFreePlace place) = refusal the_book 8 place
 
 -- every promise takes a refusal's number, place and refuser from here
 abbrev pub read_refusal : ReadFault → Refusal

@@ -27,6 +27,9 @@ pub enum TextFault {
 pub enum BookFault {
     // A 129th literal.
     TooManyLiterals { place: usize },
+    // The clause needs a new line, and no place is free. The place is that of
+    // its ending 0.
+    NoFreePlace { place: usize },
 }
 
 // What a reader of a whole text refuses.

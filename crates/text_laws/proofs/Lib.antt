@@ -1,4 +1,4 @@
 mod NoFurther
-mod Numerals
+pub mod Numerals
 pub mod Sound
 mod WrittenRead

@@ -1,9 +1,9 @@
 // What is proved of the definitions of clause texts alone: the laws of
-// reading, and the worked examples. A theorem is asked for where a contract
-// names it, so each stands on a function; the functions themselves do nothing.
+// reading. A theorem is asked for where a contract names it, so they stand on
+// a function, which itself does nothing. The worked examples of texts are
+// definitions here; that they hold is proved with all others, in `histories`.
 #![tactic(auto)]
 
-ghost use Rattle.text_laws.specs.Examples.{NumberWords, SoundTexts, LongClauses, FaultyTexts};
 ghost use Rattle.text_laws.specs.Laws.{NumberWordsAreDecimals, SoundTextsSayTheirClauses, WrittenIsRead, WrittenHasItsHead, RefusalLooksNoFurther};
 
 pub fn laws_hold()
@@ -12,11 +12,4 @@ pub fn laws_hold()
     ensures read { WrittenIsRead }
     ensures head { WrittenHasItsHead }
     ensures further { RefusalLooksNoFurther }
-{}
-
-pub fn examples_hold()
-    ensures numbers { NumberWords }
-    ensures sound { SoundTexts }
-    ensures long { LongClauses }
-    ensures faulty { FaultyTexts }
 {}

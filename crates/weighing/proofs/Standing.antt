@@ -1,14 +1,15 @@
 -- The lines of a book as the code reads them, one by one. Assumes nothing.
-use Rattle.std.proofs.Common.{◌≡◌, ℕ, zero, suc, ◌+◌, ◌<◌, ◌≤◌, Bool, true, List, [], ◌∷◌, length, get_or, take, ℤ, refl, sym, ap, ◌∙◌, arith}
+use Rattle.std.proofs.Common.{◌≡◌, ℕ, zero, suc, ◌+◌, ◌<◌, ◌≤◌, Bool, true, List, [], ◌∷◌, length, get_or, take, ℤ, sym, ap, ◌∙◌, arith}
 use Rattle.std.specs.List.{list_all}
-use Rattle.std.proofs.lemmas.Bool.{and_parts, and_from}
-use Rattle.std.proofs.lemmas.List.{get_or-map, length-map, take_all, length-take-le}
-use Rattle.words.specs.Bits.{width, bit, later, listed}
+use Rattle.std.proofs.lemmas.Bool.{and_parts}
+use Rattle.std.proofs.lemmas.List.{take_all, length-take-le}
+use Rattle.lines.proofs.Stated.{length-clauses, clauses_at}
+use Rattle.words.specs.Bits.{width}
 use Rattle.clauses.specs.declared.clause.Clause.{Clause}
 use Rattle.clauses.specs.Values.{Values, assigned, full, truths}
 use Rattle.clauses.specs.Clauses.{Signs, size, within, broken, critical}
 use Rattle.clauses.specs.Words.{signs}
-use Rattle.clauses.proofs.Literals.{within-holds, holds-within}
+use Rattle.clauses.proofs.Literals.{all_wider}
 use Rattle.clause_laws.proofs.Agreeing.{word_assignment}
 use Rattle.lines.specs.declared.line.Line.{Line}
 use Rattle.lines.specs.Lines.{clause_of, clauses}
@@ -17,31 +18,11 @@ use Rattle.steps.specs.Rows.{row}
 use Rattle.weighing.specs.declared.book.Book.{Book}
 use Rattle.steps.proofs.Rows.{raised_if, row_more, length-row, count-row-le, sum-row-le, broken-length}
 
--- an assignment of n variables
-length-listed : (n : ℕ) (f : ℕ → Bool) → length (listed n f) ≡ n
-length-listed zero f = refl
-length-listed (suc n) f = ap suc (length-listed n (later f))
-
-pub length_truths : (n word : ℕ) → length (truths n word) ≡ n
-unfolding truths
-length_truths n word = length-listed n (λ k. bit k word)
-
 -- what holds of all holds of each
 pub all-at : {X : Type 0} (p : X → Bool) (xs : List X) (i : ℕ) (d : X) → list_all p xs ≡ true → i < length xs → p (get_or xs i d) ≡ true
 all-at p [] i d h l = absurd (omega arith)
 all-at p (x ∷ xs) zero d h l = (and_parts (p x) (list_all p xs) h).0
 all-at p (x ∷ xs) (suc i) d h l = all-at p xs i d (and_parts (p x) (list_all p xs) h).1 (omega arith)
-
-all_weaker : {X : Type 0} (p q : X → Bool) → ((x : X) → p x ≡ true → q x ≡ true) → (xs : List X) → list_all p xs ≡ true → list_all q xs ≡ true
-all_weaker p q f [] h = refl
-all_weaker p q f (x ∷ xs) h = let r = and_parts (p x) (list_all p xs) h in and_from (q x) (list_all q xs) (f x r.0) (all_weaker p q f xs r.1)
-
--- with fewer variables, with more
-within_wider : (n m : ℕ) → n ≤ m → (c : Signs) → within n c ≡ true → within m c ≡ true
-within_wider n m h c w = holds-within m c (λ l k. let r = within-holds n c w l k in omega arith)
-
-pub within-width : (n : ℕ) (cs : List Signs) → n ≤ width → list_all (within n) cs ≡ true → list_all (within width) cs ≡ true
-within-width n cs h w = all_weaker (within n) (within width) (within_wider n width h) cs w
 
 -- a word and its first n bits judge a line alike
 pub critical_so : (n word : ℕ) (c : Signs) (l : ℤ) → n ≤ width → within n c ≡ true → critical (full word) l c ≡ critical (assigned (truths n word)) l c
@@ -62,10 +43,10 @@ module _ (book : Book) (word : ℕ) where
 
   -- line i
   pub clause-at : (i : ℕ) (d : Line) → i < length lines → get_or (clauses lines) i [] ≡ clause_of (get_or lines i d)
-  clause-at i d h = get_or-map clause_of lines i d [] h
+  clause-at i d h = clauses_at lines i d h
 
   pub within-at : (i : ℕ) (d : Line) → i < length lines → within book.n (clause_of (get_or lines i d)) ≡ true
-  within-at i d h = rw (← (clause-at i d h)) (all-at (within book.n) (clauses lines) i [] book.inside (rw (length-map lines clause_of) h))
+  within-at i d h = rw (← (clause-at i d h)) (all-at (within book.n) (clauses lines) i [] book.inside (rw (length-clauses lines) h))
 
   pub broken-at : (i : ℕ) (d : Line) → i < length lines → broken (full word) (clause_of (get_or lines i d)) ≡ broken (assigned a) (clause_of (get_or lines i d))
   broken-at i d h = broken_so book.n word (clause_of (get_or lines i d)) book.wide (within-at i d h)
@@ -100,17 +81,17 @@ module _ (book : Book) (word : ℕ) where
       let g : get_or (clauses lines) i [] ≡ signs c = rw e (clause-at i d h) in
       let w : within book.n (signs c) ≡ true = rw e (within-at i d h) in
       let q : broken (assigned a) (signs c) ≡ b = sym (f ∙ broken_so book.n word (signs c) book.wide w) in
-      row_more (clauses lines) a i [] (rw (length-map lines clause_of) h) ∙ rw (g, q)
+      row_more (clauses lines) a i [] (rw (length-clauses lines) h) ∙ rw (g, q)
 
   -- no entry is above the number of lines weighed
   pub entry-le : (i k : ℕ) → i ≤ length lines → k ≤ width → get_or (row (take i (clauses lines)) a) k 0 ≤ i
   entry-le i k h l =
       let c = count-row-le (take i (clauses lines)) a k (omega arith) in
-      omega (arith, length-take-le i (clauses lines) (rw (length-map lines clause_of) h))
+      omega (arith, length-take-le i (clauses lines) (rw (length-clauses lines) h))
 
   pub all_weighed : row (take (length lines) (clauses lines)) a ≡ row (clauses lines) a
-  all_weighed = ap (λ cs. row cs a) (take_all (length lines) (clauses lines) (omega (arith, length-map lines clause_of)))
+  all_weighed = ap (λ cs. row cs a) (take_all (length lines) (clauses lines) (omega (arith, length-clauses lines)))
 
   pub row-fit : Fit (row (clauses lines) a)
   row-fit =
-      (length-row (clauses lines) a, omega (arith, sum-row-le (clauses lines) a (within-width book.n (clauses lines) book.wide book.inside), length-map lines clause_of, book.few))
+      (length-row (clauses lines) a, omega (arith, sum-row-le (clauses lines) a (all_wider book.n width book.wide (clauses lines) book.inside), length-clauses lines, book.few))

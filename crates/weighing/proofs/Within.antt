@@ -4,7 +4,7 @@ use mathlib.Core.Bool.{or-true}
 use lib.Bits.{bit_and, bit_or, and_le_l, or_lt}
 use Rattle.std.specs.List.{list_all}
 use Rattle.std.proofs.lemmas.Bool.Decides.{nat_tests}
-use Rattle.std.proofs.lemmas.List.Folds.{list_all-map}
+use Rattle.lines.proofs.Stated.{all-clauses}
 use Rattle.words.specs.Bits.{width, bit, BitsWhere, later, every, listed}
 use Rattle.words.proofs.Bits.{bit-or, bit-without, zero_bits, every-same}
 use Rattle.clauses.specs.declared.clause.Clause.{Clause}
@@ -50,4 +50,4 @@ within_words c n mask ps qs ms low =
 
 -- clause by clause, line by line
 pub all_lines : (n : ℕ) (ls : List Line) → list_all (within n) (clauses ls) ≡ list_all (λ l. within n (clause_of l)) ls
-all_lines n ls = list_all-map (within n) clause_of ls
+all_lines n ls = all-clauses (within n) ls

@@ -26,7 +26,8 @@ impl Drop for Flipped<'_> {
     // Takes the flip back. What it holds is taken apart at the end, as a `drop`
     // has to.
     fn drop(self)
-        ensures back { self.exit.0.now.word ≡ bit_xor self.entry.assignment.now.word self.entry.bit }
+        ensures back { self.exit.0.now.word
+            ≡ bit_xor self.entry.assignment.now.word self.entry.bit }
     {
         self.assignment.word ^= self.bit;
         let Flipped {
@@ -46,7 +47,9 @@ pub fn weigh_neighbour<G: Guide>(
     guide: &G,
     best: &Row,
 ) -> Option<Row>
-    ensures row { Gains (G.Guide.rank guide.now) (ranked_flipped (standing book.now) (truths book.now.n assignment.old.word) v) (ranked_row best.now) result }
+    ensures row { Gains (G.Guide.rank guide.now)
+        (ranked_flipped (standing book.now) (truths book.now.n assignment.old.word) v)
+        (ranked_row best.now) result }
     ensures same { assignment.new ≡ assignment.old }
 {
     let bit = sets::one(v);

@@ -33,7 +33,8 @@ pub extern "C" fn weighing_c_walk(
     word: &mut u64,
 ) -> bool
     ensures book { result ≡ true → readable n (map line_of given.now) ≡ true }
-    ensures walked { result ≡ true → truths n word.new ≡ walked fewest_broken (map signs_of given.now) most (truths n word.old) }
+    ensures walked { result ≡ true → truths n word.new
+        ≡ walked fewest_broken (map signs_of given.now) most (truths n word.old) }
     ensures kept { result ≡ false → word.new ≡ word.old }
 {
     let Ok(lines) = lines_of(alloc, given) else {

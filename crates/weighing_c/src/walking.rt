@@ -12,7 +12,9 @@ use words::sets;
 
 // At most `most` flips, and none once no neighbour is better.
 pub fn walk<G: Guide>(book: &Book<'_>, assignment: &mut Full, guide: &G, most: u32)
-    ensures walked { truths book.now.n assignment.new.word ≡ walked (G.Guide.rank guide.now) (standing book.now) most (truths book.now.n assignment.old.word) }
+    ensures walked { truths book.now.n assignment.new.word
+        ≡ walked (G.Guide.rank guide.now) (standing book.now) most
+        (truths book.now.n assignment.old.word) }
 {
     for _taken in 0..most {
         let Some(v) = flip(book, assignment, guide) else {

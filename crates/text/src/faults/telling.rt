@@ -53,12 +53,14 @@ impl Telling for BookFault {
     fn number(&self) -> u8 {
         match self {
             BookFault::TooManyLiterals { .. } => 6,
+            BookFault::NoFreePlace { .. } => 8,
         }
     }
 
     fn place(&self) -> usize {
         match self {
             BookFault::TooManyLiterals { place } => *place,
+            BookFault::NoFreePlace { place } => *place,
         }
     }
 }

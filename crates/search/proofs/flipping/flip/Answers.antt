@@ -3,7 +3,7 @@ use Rattle.clauses.specs.Values.{truths}
 use Rattle.guides.specs.Counted.{counts}
 use Rattle.steps.proofs.Flips.{SoFar, near, here}
 use Rattle.weighing.specs.Books.{standing}
-use Rattle.weighing.proofs.Standing.{length_truths}
+use Rattle.clauses.proofs.Listed.{length_truths}
 use Rattle.search.proofs.Best.{kept, taken, all_weighed, all_best}
 use Rattle.search.proofs.flipping.flip.Given.{Over}
 use Rattle.search.proofs.flipping.flip.Goals as goal

@@ -1,0 +1,15 @@
+pub mod Counting
+pub mod Ranks
+pub mod Examples
+pub mod Books
+pub mod Moves
+pub mod Potential
+pub mod Runs
+pub mod Texts
+pub mod Given
+pub mod Beside
+pub mod Adding
+pub mod Loading
+pub mod Running
+pub mod Histories
+pub mod Derivations

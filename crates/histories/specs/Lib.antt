@@ -1,0 +1,9 @@
+pub mod States
+pub mod Runs
+pub mod Calls
+pub mod Logs
+pub mod Readings
+pub mod Tallies
+pub mod Guarantees
+pub mod Laws
+pub mod Worked

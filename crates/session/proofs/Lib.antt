@@ -1,0 +1,6 @@
+pub mod States
+pub mod Calls
+pub mod Pushing
+pub mod Entering
+pub mod Stepping
+pub mod Running

@@ -1,0 +1,70 @@
+// From the bytes of a reader to those of a writer.
+ghost use Rattle.std.specs.Prelude.{◌≡◌, take, IfSome, IfOk, IfErr, OnOk};
+ghost use Rattle.std.specs.Io.KnownBytes.{Appends};
+ghost use Rattle.solve.specs.Answers.{output};
+ghost use Rattle.solve.specs.Promises.{Unanswered};
+
+use crate::solving::{MOST_INPUT, answer};
+use std::alloc::Global;
+use std::io;
+use std::io::{Read, Write};
+
+// Why no answer was written, or not the whole of it.
+#[derive(Clone, Copy, PartialEq, Eq, Debug)]
+pub enum Failure {
+    // The input could not be read to its end; that was told.
+    Unread,
+    // There is no memory for the answer; that was told.
+    NoMemory,
+    // The writer failed: of what it was to write it may have a part.
+    Unwritten,
+}
+
+// Reads one byte more than is taken, so that longer input shows. The cast is
+// exact: 65,536 fits.
+fn read_text<R: Read + Drop>(alloc: Global, reader: R) -> io::Result<Vec<u8>>
+    ensures text { IfOk result (λ text. IfSome (R.remaining reader)
+        (λ input. text.items ≡ take 65537 input)) }
+{
+    let mut text = Vec::new(alloc);
+    reader.take(MOST_INPUT as u64 + 1).read_to_end(&mut text)?;
+    Ok(text)
+}
+
+// Tells why there is no answer, where no byte of one was tried.
+fn tell<W: Write>(writer: &mut W, failure: Failure) -> Failure
+    ensures told { Unanswered (W.contents writer.old) (W.contents writer.new) result }
+{
+    let note: &[u8] = match failure {
+        Failure::Unread => b"c the input could not be read\ns UNKNOWN\n",
+        Failure::NoMemory => b"c no memory is left for the answer\ns UNKNOWN\n",
+        Failure::Unwritten => return failure,
+    };
+    match writer.write_all(note) {
+        Ok(()) => failure,
+        Err(_) => Failure::Unwritten,
+    }
+}
+
+// Reads a text, and writes the answer to it and nothing else, or why there is
+// none.
+pub fn converse<R: Read + Drop, W: Write>(
+    alloc: Global,
+    reader: R,
+    writer: &mut W,
+) -> Result<(), Failure>
+    ensures answered { OnOk result (IfSome (R.remaining reader)
+        (λ input. Appends (W.contents writer.old) (W.contents writer.new) (output input))) }
+    ensures told { IfErr result (Unanswered (W.contents writer.old) (W.contents writer.new)) }
+{
+    let Ok(text) = read_text(alloc, reader) else {
+        return Err(tell(writer, Failure::Unread));
+    };
+    let Ok(bytes) = answer(alloc, text.as_slice()) else {
+        return Err(tell(writer, Failure::NoMemory));
+    };
+    match writer.write_all(bytes.as_bytes()) {
+        Ok(()) => Ok(()),
+        Err(_) => Err(Failure::Unwritten),
+    }
+}
