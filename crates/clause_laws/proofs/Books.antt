@@ -24,6 +24,28 @@ named : (p q : Signs → Bool) (k : ℕ) (cs : List Signs) → list_all q cs ≡
 named p q zero cs a h = absurd (false≢true h)
 named p q (suc k) cs a h = found p q k cs a h
 
+-- ---- the four facts
+
+-- one by one
+pub record Kept (n : ℕ) (ls : List Candidate) : Type 0 where
+  pub one_way : list_all clean (clauses_in ls) ≡ true
+  pub different : apart (clauses_in ls) ≡ true
+  pub below : list_all (within n) (clauses_in ls) ≡ true
+  pub following : follow [] ls ≡ true
+
+pub kept_facts : (n : ℕ) (ls : List Candidate) → keeps_facts n ls ≡ true → Kept n ls
+kept_facts n ls k =
+    let p = and_parts (list_all clean (clauses_in ls) && apart (clauses_in ls)) (list_all (within n) (clauses_in ls) && follow [] ls) k in
+    let q = and_parts (list_all clean (clauses_in ls)) (apart (clauses_in ls)) p.0 in
+    let r = and_parts (list_all (within n) (clauses_in ls)) (follow [] ls) p.1 in
+    record { one_way = q.0; different = q.1; below = r.0; following = r.1 }
+
+pub facts_kept : (n : ℕ) (ls : List Candidate) → Kept n ls → keeps_facts n ls ≡ true
+facts_kept n ls k =
+    and_from (list_all clean (clauses_in ls) && apart (clauses_in ls)) (list_all (within n) (clauses_in ls) && follow [] ls)
+    (and_from (list_all clean (clauses_in ls)) (apart (clauses_in ls)) k.one_way k.different)
+    (and_from (list_all (within n) (clauses_in ls)) (follow [] ls) k.below k.following)
+
 -- ---- line after line
 
 abbrev pub sound : Values → Signs → Bool
@@ -64,11 +86,7 @@ follow-met m older (l ∷ ls) a e f h =
     and_from (meets m c) (list_all (meets m) (clauses_in ls)) k (follow-met m (older ++ (c ∷ [])) ls n p.1 q.1 r.1)
 
 pub given-met : (n : ℕ) (ls : List Candidate) (m : Values) → keeps_facts n ls ≡ true → list_all (meets m) (givens_in ls) ≡ true → list_all (meets m) (clauses_in ls) ≡ true
-given-met n ls m k h =
-    let p = and_parts (list_all clean (clauses_in ls) && apart (clauses_in ls)) (list_all (within n) (clauses_in ls) && follow [] ls) k in
-    follow-met m [] ls refl
-    (and_parts (list_all clean (clauses_in ls)) (apart (clauses_in ls)) p.0).0
-    (and_parts (list_all (within n) (clauses_in ls)) (follow [] ls) p.1).1 h
+given-met n ls m k h = let f = kept_facts n ls k in follow-met m [] ls refl f.one_way f.following h
 
 -- ---- an empty line
 

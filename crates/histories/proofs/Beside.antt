@@ -6,7 +6,6 @@ use Rattle.answers.specs.declared.run.Outcome.{Outcome}
 use Rattle.answers.specs.declared.run.Outcome.TheVariants.{Met, NoneMeets, Spent, Full}
 use Rattle.clauses.specs.Values.{assigned}
 use Rattle.clauses.specs.Literals.{names}
-use Rattle.guides.specs.declared.row.TheConstants.{MOST_LINES}
 use Rattle.guides.specs.Ranks.{Rank}
 use Rattle.lines.specs.Lines.{givens_in}
 use Rattle.histories.specs.States.{State, unopened, is_open, WellFormed}
@@ -27,7 +26,7 @@ pub record Beside (places : ℕ) (t : Tally) (s : State) : Type 0 where
   pub same_n : t.n ≡ s.n
   pub fine : WellFormed s
   pub new : s.n ≡ 0 → (t ≡ empty_tally) × (s ≡ unopened)
-  pub small : (s.n ≡ 0 → ⊥) → places ≤ MOST_LINES
+  pub small : (s.n ≡ 0 → ⊥) → places ≤ 65536
   pub fits : length s.lines ≤ places
   pub forth : (a : List Bool) → length a ≡ s.n → meets_all a t.clauses ≡ true → AllMet (assigned a) s
   pub back : (a : List Bool) → length a ≡ s.n → AllMet (assigned a) s → meets_all a t.clauses ≡ true

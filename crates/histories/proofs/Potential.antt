@@ -6,7 +6,6 @@ use Rattle.words.specs.Bits.{width}
 use Rattle.clauses.specs.Clauses.{empty}
 use Rattle.clauses.proofs.Literals.{all_wider}
 use Rattle.lines.specs.Lines.{Candidate, clauses_in}
-use Rattle.guides.specs.declared.row.TheConstants.{MOST_LINES}
 use Rattle.guides.specs.Rows.{Fit}
 use Rattle.guides.specs.Ranks.{Rank}
 use Rattle.steps.specs.Rows.{row, ranked}
@@ -15,7 +14,8 @@ use Rattle.histories.specs.States.{State, with_line, with_assignment, WellFormed
 use Rattle.histories.specs.Tallies.{same_ranks}
 use Rattle.histories.proofs.Counting.{values, values_strict, values_short, values_ext}
 use Rattle.histories.proofs.Ranks.{ranks_agree}
-use Rattle.histories.proofs.Books.{kept_facts, length_clauses, book_short}
+use Rattle.clause_laws.proofs.Books.{kept_facts}
+use Rattle.histories.proofs.Books.{length-clauses_in, book_short}
 
 -- what an assignment of the session's variables ranks
 abbrev pub rank_of : Rank → State → List Bool → ℕ
@@ -87,14 +87,14 @@ start_low rank s fine no_empty =
 -- ---- ranks that are the same on every row
 
 -- the rows that a session can come to are rows
-row_fits : (s : State) → WellFormed s → length s.lines ≤ MOST_LINES → (a : List Bool) → Fit (row (clauses_in s.lines) a)
+row_fits : (s : State) → WellFormed s → length s.lines ≤ 65536 → (a : List Bool) → Fit (row (clauses_in s.lines) a)
 row_fits s fine few a = (
   length-row (clauses_in s.lines) a,
   le_trans (sum-row-le (clauses_in s.lines) a (all_wider s.n width fine.narrow (clauses_in s.lines) (kept_facts s.n s.lines fine.kept).below))
-      (le_trans (le_of_eq (length_clauses s.lines)) few),
+      (le_trans (le_of_eq (length-clauses_in s.lines)) few),
 )
 
-pub potential_agrees : (held rank : Rank) (s : State) → same_ranks (Some held) rank ≡ true → WellFormed s → length s.lines ≤ MOST_LINES → potential held s ≡ potential rank s
+pub potential_agrees : (held rank : Rank) (s : State) → same_ranks (Some held) rank ≡ true → WellFormed s → length s.lines ≤ 65536 → potential held s ≡ potential rank s
 potential_agrees held rank s same fine few =
     ap (λ x. unwritten s * 2 ^ s.n + x)
     (values_ext s.n (λ a. ltb (rank_of held s a) (rank_of held s s.assignment)) (λ a. ltb (rank_of rank s a) (rank_of rank s s.assignment))

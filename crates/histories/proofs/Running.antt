@@ -21,7 +21,7 @@ use Rattle.histories.specs.Runs.{Run, due_move, run}
 use Rattle.histories.specs.Calls.{runs, Answer, ran, does}
 use Rattle.histories.specs.Tallies.{Tally, same_ranks, counted}
 use Rattle.histories.specs.Guarantees.{meets_all, CanBeMet, is_verdict, is_one_of}
-use Rattle.histories.proofs.Books.{kept_facts}
+use Rattle.clause_laws.proofs.Books.{kept_facts}
 use Rattle.histories.proofs.Moves.{due_serves}
 use Rattle.histories.proofs.Potential.{potential, potential_agrees}
 use Rattle.histories.proofs.Runs.{Told, run_told}

@@ -2,7 +2,6 @@
 -- nothing.
 use Rattle.std.specs.Prelude.{◌≡◌, ℕ, Bool, true, not, length, List, [], ◌∷◌, ◌++◌, ◌==◌, ◌≤◌}
 use Rattle.words.specs.Bits.{width}
-use Rattle.guides.specs.declared.row.TheConstants.{MOST_LINES}
 use Rattle.lines.specs.Lines.{Candidate, keeps_facts}
 
 -- How many variables a session may have, how many places its book, and how
@@ -18,8 +17,8 @@ session_limits = record { variables = 64; places = 65536; steps = 1000000 }
 
 -- A word has a bit for each variable, and a row can count the lines.
 pub record Allowed (l : Limits) : Type 0 where
-  pub variables : l.variables ≤ width
-  pub places : l.places ≤ MOST_LINES
+  pub variables : l.variables ≤ 64
+  pub places : l.places ≤ 65536
 
 -- n variables, the lines oldest first, and an assignment of n truth values
 pub record State : Type 0 where

@@ -3,7 +3,6 @@ use Rattle.std.specs.Prelude.{ℕ, zero, suc, ◌+◌, ◌-◌, Bool, false, con
 use Rattle.std.specs.List.{list_all, range_with_len}
 use Rattle.answers.specs.declared.load.LoadRefusal.{LoadRefusal}
 use Rattle.text.specs.Reading.{reading, clauses_of}
-use Rattle.guides.specs.declared.row.TheConstants.{LENGTHS, MOST_LINES}
 use Rattle.guides.specs.Rows.{Counts}
 use Rattle.guides.specs.Ranks.{Rank}
 use Rattle.histories.specs.Calls.{Call, opens, adds, loads, restarts, runs, Answer, opened, added, loaded, restarted, ran}
@@ -28,10 +27,10 @@ all_rows (suc k) b test =
     list_all (λ x. all_rows k (b - x) (λ xs. test (x ∷ xs))) (range_with_len 0 (suc b))
 
 -- The ranks that are held, if any are, are those of this guide: on every row
--- that a session can come to.
+-- that a session can come to, a count for each length from 0 to 64.
 unfoldable pub same_ranks : Option Rank → Rank → Bool
 same_ranks None rank = false
-same_ranks (Some held) rank = all_rows LENGTHS MOST_LINES (λ cs. held cs == rank cs)
+same_ranks (Some held) rank = all_rows 65 65536 (λ cs. held cs == rank cs)
 
 -- each clause appended sets the steps to 0
 abbrev pub appended : Tally → List (List ℤ) → Tally

@@ -1,5 +1,5 @@
 -- What a call comes to once its tests are passed. Assumes nothing.
-use Rattle.std.proofs.Common.{◌≡◌, ℕ, ◌≤◌, Bool, true, false, cond, not, eqb, ltb, List, length, ℤ, Ok, Err, Option, Result, ap}
+use Rattle.std.proofs.Common.{◌≡◌, ℕ, ◌≤◌, Bool, true, false, cond, not, eqb, ltb, List, length, ℤ, Ok, Err, Option, Result, sym, ap, ◌∙◌}
 use Rattle.std.specs.List.{list_all}
 use Rattle.std.proofs.lemmas.Bool.{ne_eqb, le-ltb}
 use Rattle.clauses.specs.Literals.{names}
@@ -12,7 +12,7 @@ use Rattle.answers.specs.declared.refusal.Refusal.{Refusal}
 use Rattle.answers.specs.declared.refusal.Refusal.TheVariants.{NoLiteral}
 use Rattle.histories.specs.States.{State, session_limits}
 use Rattle.histories.specs.Runs.{run}
-use Rattle.histories.specs.Calls.{adds, added, loads, loaded, runs, ran, accepted, take_up, answering, run_told, does}
+use Rattle.histories.specs.Calls.{Call, Answer, adds, added, loads, loaded, runs, ran, accepted, take_up, answering, run_told, does}
 
 -- a number that is no literal is refused
 accepts : (b : Bool) (x : Result (Option ℕ) Refusal × State) (s t : State) (r : Result (Option ℕ) Refusal) → cond b x (Err NoLiteral, s) ≡ (r, t)
@@ -38,3 +38,7 @@ module _ (places : ℕ) (s t : State) (opened : s.n ≡ 0 → ⊥) where
   runs_do rank budget r few e =
       let no_more : ltb 1000000 budget ≡ false = le-ltb 1000000 budget few in
       rw (shut, no_more) (ap (λ x. answering ran (run_told x)) e)
+
+-- a call's equation over equal places and states
+pub retold : (p q : ℕ) (s t u : State) (call : Call) (a b : Answer) → p ≡ q → s ≡ t → a ≡ b → does session_limits p s call ≡ (a, u) → does session_limits q t call ≡ (b, u)
+retold p q s t u call a b e f g h = (λ i. does session_limits (sym e i) (sym f i) call) ∙ h ∙ (λ i. (g i, u))

@@ -1,5 +1,5 @@
 -- Three calls that nothing refuses, one after another. Assumes nothing.
-use Rattle.std.proofs.Common.{◌≡◌, ℕ, true, List, [], ◌∷◌, length, ℤ, Ok, Some, Option, sym, ap, ◌∙◌, subst}
+use Rattle.std.proofs.Common.{◌≡◌, refl, ℕ, true, List, [], ◌∷◌, length, ℤ, Ok, Some, Option, sym, ap, ◌∙◌, subst}
 use Rattle.std.proofs.lemmas.Bool.{and_parts}
 use Rattle.clauses.specs.Values.{assigned, truths}
 use Rattle.clauses.specs.Literals.{met}
@@ -8,13 +8,10 @@ use Rattle.guides.specs.Ranks.{Rank}
 use Rattle.answers.specs.declared.run.Outcome.TheVariants.{Met}
 use Rattle.answers.specs.declared.run.Ran.{Ran}
 use Rattle.histories.specs.States.{State, session_limits, unopened}
-use Rattle.histories.specs.Calls.{Call, Answer, opens, adds, runs, opened, added, ran, does}
+use Rattle.histories.specs.Calls.{Answer, opens, adds, runs, opened, added, ran, does}
 use Rattle.histories.specs.Logs.{Log, Reached}
 use Rattle.histories.specs.Guarantees.{Guaranteed}
-
--- a call over as many places
-over : (p q : ℕ) (s t : State) (call : Call) (a b : Answer) → p ≡ q → a ≡ b → does session_limits p s call ≡ (a, t) → does session_limits q s call ≡ (b, t)
-over p q s t call a b e f h = (λ i. does session_limits (sym e i) s call) ∙ h ∙ (λ i. (f i, t))
+use Rattle.session.proofs.Calls.{retold}
 
 module _ (n start budget : ℕ) (xs : List ℤ) (line : Option ℕ) (rank : Rank) where
   -- the history of the first two
@@ -23,7 +20,7 @@ module _ (n start budget : ℕ) (xs : List ℤ) (line : Option ℕ) (rank : Rank
 
   pub reached : (p q r : ℕ) (s t u : State) (x y : Answer) → s ≡ unopened → p ≡ r → q ≡ r → x ≡ opened (Ok tt) → y ≡ added (Ok line)
       → does session_limits p s (opens n start) ≡ (x, t) → does session_limits q t (adds xs) ≡ (y, u) → Reached session_limits r before u
-  reached p q r s t u x y made e f a b at_open at_add = (t, (s, made, over p r s t (opens n start) x _ e a at_open), over q r t u (adds xs) y _ f b at_add)
+  reached p q r s t u x y made e f a b at_open at_add = (t, (s, made, retold p r s s t (opens n start) x _ e refl a at_open), retold q r t t u (adds xs) y _ f refl b at_add)
 
   -- what is guaranteed of the third, where it ends met
   pub meets : (places : ℕ) (w : State) (r : Ran) (word : ℕ) (z : Answer) → z ≡ ran (Ok r) → r.outcome ≡ Met

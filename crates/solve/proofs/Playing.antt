@@ -1,5 +1,5 @@
 -- The calls, one after another. Assumes nothing.
-use Rattle.std.proofs.Common.{◌≡◌, ℕ, ◌≤◌, false, eqb, ltb, List, length, Ok, Err, refl, sym, ap, ◌∙◌}
+use Rattle.std.proofs.Common.{◌≡◌, ℕ, ◌≤◌, false, eqb, ltb, List, length, Ok, Err, refl, ap, ◌∙◌}
 use Rattle.std.proofs.lemmas.Bool.{cond-false, le-ltb}
 use Rattle.text.specs.declared.faults.TextFault.TheVariants.{TooLong, NotProblemLine, TooLarge, NotNumber, AboveVariables, EndsInsideClause, WordAfterClauses, ClausesMissing}
 use Rattle.text.specs.declared.faults.BookFault.TheVariants.{TooManyLiterals, NoFreePlace}
@@ -11,7 +11,7 @@ use Rattle.answers.specs.declared.load.LoadFault.TheVariants as load
 use Rattle.answers.specs.declared.run.Ran.{Ran}
 use Rattle.answers.specs.Refusals.{load_refusal}
 use Rattle.histories.specs.States.{State, session_limits, unopened}
-use Rattle.histories.specs.Calls.{Call, Answer, opens, loads, runs, opened, loaded, ran, does}
+use Rattle.histories.specs.Calls.{opens, loads, runs, opened, loaded, ran, does}
 use Rattle.solve.specs.declared.answer.Fault.TheVariants.{Head}
 use Rattle.solve.specs.Answers.{most_input, unless_refused, called, found, headed, told_of, solved}
 
@@ -40,7 +40,3 @@ ran_so text n s t u done k r at_open at_load at_run =
 pub solved_so : (text : List ℕ) (n m : ℕ) → length text ≤ most_input → head_of text ≡ Ok (n, m) → solved text ≡ found (called text n)
 solved_so text n m few e =
     cond-false (ltb most_input (length text)) (Err (Head TooLong)) (headed text (head_of text)) (le-ltb most_input (length text) few) ∙ ap (headed text) e
-
--- a call's equation over equal places and states
-pub retold : (p q : ℕ) (s t u : State) (call : Call) (a b : Answer) → p ≡ q → s ≡ t → a ≡ b → does session_limits p s call ≡ (a, u) → does session_limits q t call ≡ (b, u)
-retold p q s t u call a b e f g h = (λ i. does session_limits (sym e i) (sym f i) call) ∙ h ∙ (λ i. (g i, u))

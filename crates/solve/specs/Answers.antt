@@ -50,13 +50,14 @@ told_of NoneMeets a = refuted
 told_of Spent a = undecided
 told_of Full a = undecided
 
--- a run ends the calls, or an open or a load that is refused
+-- A run ends the calls, or an open or a load that is refused. No other answer
+-- does: the last four cases do not come.
 abbrev pub found : Answer × State → Result Told Fault
 found (ran (Ok r), s) = Ok (told_of r.outcome s.assignment)
 found (ran (Err r), s) = Err (Session r)
 found (loaded (Err r), s) = Err (Load r.fault)
-found (loaded (Ok k), s) = Ok undecided
 found (opened (Err r), s) = Err (Session r)
+found (loaded (Ok k), s) = Ok undecided
 found (opened (Ok done), s) = Ok undecided
 found (added r, s) = Ok undecided
 found (restarted r, s) = Ok undecided

@@ -55,13 +55,14 @@ pub record Tells (text bytes : List ℕ) : Type 0 where
   pub unsatisfiable : (rest : List ℕ) → bytes ≡ codes "s UNSATISFIABLE" ++ rest
       → (n : ℕ) × (cs : List (List ℤ)) × Saying text n cs × ((a : List Bool) → Meets n cs a → ⊥)
 
--- what is printed where there is no answer
-abbrev pub excuse : List ℕ → List ℕ
-excuse why = codes "c " ++ (why ++ (10 ∷ codes "s UNKNOWN" ++ (10 ∷ [])))
+-- the two lines that are printed where there is no answer
+abbrev pub failure_note : List ℕ → List ℕ
+failure_note why = codes "c " ++ (why ++ (10 ∷ codes "s UNKNOWN" ++ (10 ∷ [])))
 
 -- What failed before a byte of an answer was tried is told, and nothing else is
 -- written.
 abbrev pub Unanswered : Option (List ℕ) → Option (List ℕ) → Failure → Type 0
-Unanswered old new Unread = Appends old new (excuse (codes "the input could not be read"))
-Unanswered old new NoMemory = Appends old new (excuse (codes "no memory is left for the answer"))
+Unanswered old new Unread = Appends old new (failure_note (codes "the input could not be read"))
+Unanswered old new NoMemory =
+    Appends old new (failure_note (codes "no memory is left for the answer"))
 Unanswered old new Unwritten = Unit {0}

@@ -1,27 +1,23 @@
 -- The program's worked examples, with all others. Assumes nothing.
-use Rattle.std.specs.Prelude.{◌≡◌, List, ℕ, [], ◌∷◌, ◌++◌, codes, Ok}
+use Rattle.std.specs.Prelude.{◌≡◌, [], ◌∷◌, codes, Ok}
 use Rattle.text_laws.specs.Examples.{lined}
 use Rattle.histories.specs.Worked.{Worked}
 use Rattle.solve.specs.Answers.{undecided, printed, output}
 
--- lines, each ended by LF
-abbrev pub on_lines : List (List ℕ) → List ℕ
-on_lines [] = []
-on_lines (l ∷ ls) = l ++ (10 ∷ on_lines ls)
-
+-- a last line that is empty: the one before it ends with LF
 pub record AllWorked : Type 0 where
   pub others : Worked
   pub satisfiable :
       output (lined (codes "p cnf 2 2" ∷ codes "1 2 0" ∷ codes "-1 0" ∷ []))
-      ≡ on_lines (codes "s SATISFIABLE" ∷ codes "v -1 2 0" ∷ [])
+      ≡ lined (codes "s SATISFIABLE" ∷ codes "v -1 2 0" ∷ [] ∷ [])
   pub no_clauses :
-      output (codes "p cnf 1 0") ≡ on_lines (codes "s SATISFIABLE" ∷ codes "v -1 0" ∷ [])
-  pub unsatisfiable : output (codes "p cnf 1 1 0") ≡ on_lines (codes "s UNSATISFIABLE" ∷ [])
-  pub unknown : printed (Ok undecided) ≡ on_lines (codes "s UNKNOWN" ∷ [])
+      output (codes "p cnf 1 0") ≡ lined (codes "s SATISFIABLE" ∷ codes "v -1 0" ∷ [] ∷ [])
+  pub unsatisfiable : output (codes "p cnf 1 1 0") ≡ lined (codes "s UNSATISFIABLE" ∷ [] ∷ [])
+  pub unknown : printed (Ok undecided) ≡ lined (codes "s UNKNOWN" ∷ [] ∷ [])
   pub above_variables :
       output (lined (codes "p cnf 2 1" ∷ codes "1 3 0" ∷ []))
-      ≡ on_lines (codes "c refused 13 at 12" ∷ [])
+      ≡ lined (codes "c refused 13 at 12" ∷ [] ∷ [])
   pub word_after :
       output (lined (codes "p cnf 2 2" ∷ codes "1 0" ∷ codes "2 0 -1" ∷ []))
-      ≡ on_lines (codes "c refused 15 at 18" ∷ [])
-  pub no_variables : output (codes "p cnf 0 1 1") ≡ on_lines (codes "c refused 2 at 0" ∷ [])
+      ≡ lined (codes "c refused 15 at 18" ∷ [] ∷ [])
+  pub no_variables : output (codes "p cnf 0 1 1") ≡ lined (codes "c refused 2 at 0" ∷ [] ∷ [])

@@ -18,6 +18,7 @@ use Rattle.lines.specs.declared.line.Line.{Line}
 use Rattle.lines.specs.Lines.{Candidate, candidate_of, candidates, clauses, clauses_in, line, follows, follow, apart, keeps, keeps_facts, resolved}
 use Rattle.lines.proofs.Resolution.{sole_clash}
 use Rattle.clause_laws.proofs.Bar.{bar-broken}
+use Rattle.clause_laws.proofs.Books.{kept_facts, facts_kept}
 use Rattle.clause_laws.proofs.Counting.{same_self}
 use Rattle.steps.specs.Laws.{WhatIsWrittenKeepsTheFacts, LearntAndBarredAreBroken}
 use Rattle.steps.specs.Writing.{learnt, barred, swept}
@@ -63,14 +64,14 @@ pub sound_keeps : (n : ℕ) (ls : List Candidate) (l : Candidate) → keeps_fact
 sound_keeps n ls l k s =
     let cs = clauses_in ls in
     let c = l.clause in
-    let p = and_parts (list_all clean cs && apart cs) (list_all (within n) cs && follow [] ls) k in
-    let q = and_parts (list_all clean cs) (apart cs) p.0 in
-    let r = and_parts (list_all (within n) cs) (follow [] ls) p.1 in
+    let f = kept_facts n ls k in
     let more : clauses_in (ls ++ (l ∷ [])) ≡ cs ++ (c ∷ []) = map-append (λ (k : Candidate). k.clause) ls (l ∷ []) in
-    rw more
-    (and_from (list_all clean (cs ++ (c ∷ [])) && apart (cs ++ (c ∷ []))) (list_all (within n) (cs ++ (c ∷ [])) && follow [] (ls ++ (l ∷ [])))
-    (and_from (list_all clean (cs ++ (c ∷ []))) (apart (cs ++ (c ∷ []))) (all_more clean cs c q.0 s.one_way) (apart_more cs c q.1 s.new))
-    (and_from (list_all (within n) (cs ++ (c ∷ []))) (follow [] (ls ++ (l ∷ []))) (all_more (within n) cs c r.0 s.within_n) (follow_more [] ls l r.1 s.following)))
+    facts_kept n (ls ++ (l ∷ [])) (record {
+      one_way = rw more (all_more clean cs c f.one_way s.one_way);
+      different = rw more (apart_more cs c f.different s.new);
+      below = rw more (all_more (within n) cs c f.below s.within_n);
+      following = follow_more [] ls l f.following s.following;
+    })
 
 -- the same of the code's lines
 pub line_keeps : (n : ℕ) (ls : List Line) (l : Line) → keeps n ls ≡ true → Sound n (clauses ls) (candidate_of l) → keeps n (ls ++ (l ∷ [])) ≡ true
@@ -142,18 +143,13 @@ barred_sound cs a few =
       following = passes_one (λ c. included c b) g.1 (line g.0 cs) x.0 ((bar-broken a few).3 g.1 e);
     })
 
-kept_parts : (n : ℕ) (ls : List Candidate) → keeps_facts n ls ≡ true → (list_all clean (clauses_in ls) ≡ true) × (list_all (within n) (clauses_in ls) ≡ true)
-kept_parts n ls k =
-    let p = and_parts (list_all clean (clauses_in ls) && apart (clauses_in ls)) (list_all (within n) (clauses_in ls) && follow [] ls) k in
-    ((and_parts (list_all clean (clauses_in ls)) (apart (clauses_in ls)) p.0).0, (and_parts (list_all (within n) (clauses_in ls)) (follow [] ls) p.1).0)
-
 pub written_keeps : WhatIsWrittenKeepsTheFacts
 written_keeps ls a k few i d b =
     let cs = clauses_in ls in
-    let p = kept_parts (length a) ls k in
+    let p = kept_facts (length a) ls k in
     let Q = Sound (length a) cs in
-    let later = All-append Q (barred cs a) (swept cs) (barred_sound cs a few) (swept_sound (length a) cs p.0 p.1) in
-    let all = All-append Q (learnt cs a) (barred cs a ++ swept cs) (learnt_sound (length a) cs p.0 p.1 a) later in
+    let later = All-append Q (barred cs a) (swept cs) (barred_sound cs a few) (swept_sound (length a) cs p.one_way p.below) in
+    let all = All-append Q (learnt cs a) (barred cs a ++ swept cs) (learnt_sound (length a) cs p.one_way p.below a) later in
     sound_keeps (length a) ls _ k (all i d b)
 
 -- ---- the first of each
@@ -161,8 +157,8 @@ written_keeps ls a k few i d b =
 pub learnt_keeps : (ls : List Line) (a : List Bool) (l : Line) → keeps (length a) ls ≡ true → first (learnt (clauses ls) a) ≡ Some (candidate_of l)
     → keeps (length a) (ls ++ (l ∷ [])) ≡ true
 learnt_keeps ls a l k e =
-    let p = kept_parts (length a) (candidates ls) k in
-    line_keeps (length a) ls l k (All-first (Sound (length a) (clauses ls)) _ _ (learnt_sound (length a) (clauses ls) p.0 p.1 a) e)
+    let p = kept_facts (length a) (candidates ls) k in
+    line_keeps (length a) ls l k (All-first (Sound (length a) (clauses ls)) _ _ (learnt_sound (length a) (clauses ls) p.one_way p.below a) e)
 
 pub barred_keeps : (ls : List Line) (a : List Bool) (l : Line) → keeps (length a) ls ≡ true → length a ≤ width → first (barred (clauses ls) a) ≡ Some (candidate_of l)
     → keeps (length a) (ls ++ (l ∷ [])) ≡ true
@@ -170,8 +166,8 @@ barred_keeps ls a l k few e = line_keeps (length a) ls l k (All-first (Sound (le
 
 pub swept_keeps : (n : ℕ) (ls : List Line) (l : Line) → keeps n ls ≡ true → first (swept (clauses ls)) ≡ Some (candidate_of l) → keeps n (ls ++ (l ∷ [])) ≡ true
 swept_keeps n ls l k e =
-    let p = kept_parts n (candidates ls) k in
-    line_keeps n ls l k (All-first (Sound n (clauses ls)) _ _ (swept_sound n (clauses ls) p.0 p.1) e)
+    let p = kept_facts n (candidates ls) k in
+    line_keeps n ls l k (All-first (Sound n (clauses ls)) _ _ (swept_sound n (clauses ls) p.one_way p.below) e)
 
 -- ---- what is broken now
 

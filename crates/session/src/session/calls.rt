@@ -1,9 +1,9 @@
 // Making, opening and restarting a session, and what is read of it without
 // changing anything.
-ghost use Rattle.std.specs.Prelude.{◌≡◌, ◌≤◌, ◌<◌, ◌^◌, [], length, slice_get, OnOk, OnErr, IfOk, IfErr, MatchResult};
+ghost use Rattle.std.specs.Prelude.{◌≡◌, ◌≤◌, ◌<◌, ◌^◌, length};
 ghost use Rattle.words.specs.Bits.{width};
 ghost use Rattle.clauses.specs.Values.{truths};
-ghost use Rattle.table.specs.Held.{held, beyond, places_of};
+ghost use Rattle.table.specs.Held.{places_of};
 ghost use Rattle.histories.specs.States.{unopened};
 ghost use Rattle.histories.specs.Calls.{opens, restarts, opened, restarted, too_wide};
 ghost use Rattle.session.specs.Sessions.{state, line_of, line_told, Guarantees, KeepsPlaces};
@@ -17,7 +17,7 @@ use valuations::valuation::Full;
 use words::sets::WIDTH;
 
 // Whether the word has a one at bit n or above.
-fn is_wider(word: u64, n: u32) -> bool
+fn is_too_wide(word: u64, n: u32) -> bool
     requires { n ≤ width }
     ensures value { result ≡ too_wide n word }
 {
@@ -58,7 +58,7 @@ impl<'a> Session<'a> {
         if self.book.room() > MOST_LINES {
             return Err(Refusal::TooManyPlaces);
         }
-        if is_wider(start, n) {
+        if is_too_wide(start, n) {
             return Err(Refusal::StartOutOfRange);
         }
         self.n = n;
@@ -76,7 +76,7 @@ impl<'a> Session<'a> {
         if self.n == 0 {
             return Err(Refusal::NotOpen);
         }
-        if is_wider(start, self.n) {
+        if is_too_wide(start, self.n) {
             return Err(Refusal::StartOutOfRange);
         }
         self.assignment = Full { word: start };

@@ -1,5 +1,5 @@
 // Runs.
-ghost use Rattle.std.specs.Prelude.{◌≡◌, ◌<◌, ◌≤◌};
+ghost use Rattle.std.specs.Prelude.{◌≡◌, ◌<◌};
 ghost use Rattle.histories.specs.Runs.{verdict};
 ghost use Rattle.histories.specs.Calls.{runs, ran};
 ghost use Rattle.session.specs.Sessions.{state, Steps, Runs, verdict_of, Guarantees, KeepsPlaces};

@@ -3,7 +3,8 @@ use Rattle.guides.specs.Ranks.{longest_first}
 use Rattle.histories.specs.States.{unopened}
 use Rattle.histories.specs.Calls.{opens, opened, loads, loaded, runs, ran}
 use Rattle.session.specs.Sessions.{state, places}
-use Rattle.solve.proofs.Playing.{ran_so, solved_so, retold}
+use Rattle.session.proofs.Calls.{retold}
+use Rattle.solve.proofs.Playing.{ran_so, solved_so}
 use Rattle.solve.proofs.solving.play.Goals as goal
 
 pub returns : goal.returns
