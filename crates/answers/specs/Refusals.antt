@@ -6,7 +6,7 @@ use Rattle.text.specs.Refusals as text
 use Rattle.answers.specs.declared.load.LoadFault.{LoadFault}
 use Rattle.answers.specs.declared.load.LoadFault.TheVariants as load
 use Rattle.answers.specs.declared.refusal.Refusal.{Refusal}
-use Rattle.answers.specs.declared.refusal.Refusal.TheVariants.{AlreadyOpen, VariablesOutOfRange, TooManyPlaces, StartOutOfRange, NotOpen, TooManyNumbers, NoLiteral, NoFreePlace, BudgetTooLarge, NoSuchLine}
+use Rattle.answers.specs.declared.refusal.Refusal.TheVariants.{AlreadyOpen, VariablesOutOfRange, TooManyPlaces, StartOutOfRange, NotOpen, TooManyNumbers, NoLiteral, NoFreePlace, BudgetTooLarge, NoSuchLine, NoEmptyLine, BufferTooShort}
 
 -- every promise takes a refusal's number, place and refuser from here; a call
 -- that reads no text refuses at place 0
@@ -21,6 +21,8 @@ call_refusal NoLiteral = text.refusal the_book 7 0
 call_refusal NoFreePlace = text.refusal the_book 8 0
 call_refusal BudgetTooLarge = text.refusal the_session 17 0
 call_refusal NoSuchLine = text.refusal the_session 18 0
+call_refusal NoEmptyLine = text.refusal the_session 19 0
+call_refusal BufferTooShort = text.refusal the_session 20 0
 
 -- the same of a load, whose refusals have a byte place
 abbrev pub load_refusal : LoadFault → text.Refusal

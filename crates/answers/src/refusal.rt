@@ -25,6 +25,10 @@ pub enum Refusal {
     BudgetTooLarge,
     // There is no line of this number.
     NoSuchLine,
+    // No line is empty.
+    NoEmptyLine,
+    // The buffer is shorter than what is to be written.
+    BufferTooShort,
 }
 
 impl Telling for Refusal {
@@ -42,6 +46,8 @@ impl Telling for Refusal {
             Refusal::NoFreePlace => 8,
             Refusal::BudgetTooLarge => 17,
             Refusal::NoSuchLine => 18,
+            Refusal::NoEmptyLine => 19,
+            Refusal::BufferTooShort => 20,
         }
     }
 

@@ -1,13 +1,17 @@
 -- The tally beside the session, and what a call does to both. Assumes nothing.
 use Rattle.std.proofs.Common.{◌≡◌, ◌↔◌, ◌⊎◌, ℕ, ◌+◌, ◌^◌, ◌<◌, ◌≤◌, Bool, true, false, cond, not, eqb, List, length, Some, None, Option, inl, inr, sym, refl, ◌∙◌, subst, arith}
-use Rattle.std.specs.List.{list_all}
+use Rattle.std.specs.List.{list_any, list_all}
 use Rattle.std.proofs.lemmas.Bool.{not-true, not-false, eqb-true, eqb-false, cond_both}
 use Rattle.answers.specs.declared.run.Outcome.{Outcome}
 use Rattle.answers.specs.declared.run.Outcome.TheVariants.{Met, NoneMeets, Spent, Full}
 use Rattle.clauses.specs.Values.{assigned}
 use Rattle.clauses.specs.Literals.{names}
 use Rattle.guides.specs.Ranks.{Rank}
-use Rattle.lines.specs.Lines.{givens_in}
+use Rattle.words.specs.Bits.{width}
+use Rattle.clauses.specs.Clauses.{empty}
+use Rattle.lines.specs.Lines.{Candidate, clauses_in, givens_in, keeps_facts}
+use Rattle.clause_laws.specs.Facts.{FourFacts}
+use Rattle.clause_laws.proofs.Facts.{four_facts}
 use Rattle.histories.specs.States.{State, unopened, is_open, WellFormed}
 use Rattle.histories.specs.Calls.{Call, Answer}
 use Rattle.histories.specs.Logs.{outcome, refusal_number}
@@ -103,3 +107,17 @@ open_some s e = eqb-false s.n 0 (not-true (eqb s.n 0) (not-false (is_open s) e))
 
 pub unopened_none : (s : State) → is_open s ≡ false → s.n ≡ 0
 unopened_none s e = eqb-true s.n 0 (not-false (eqb s.n 0) e)
+
+-- ---- derivations
+
+-- An empty line, in lines that keep the facts and are given only as accepted
+-- clauses, refutes these.
+pub refuting : (places : ℕ) (t : Tally) (s : State) (ls : List Candidate) → Beside places t s → list_any empty (clauses_in ls) ≡ true
+    → list_all (is_one_of t.clauses) (givens_in ls) ≡ true → keeps_facts s.n ls ≡ true → Refutes t.n t.clauses (record s { lines = ls })
+refuting places t s ls b ends begins kept = record {
+  few = subst (λ n. n ≤ width) (sym b.same_n) b.fine.narrow;
+  named = subst (λ n. list_all (list_all (names n)) t.clauses ≡ true) (sym b.same_n) b.named;
+  ends = ends;
+  begins = begins;
+  follows = subst (λ n. FourFacts n ls) (sym b.same_n) ((four_facts s.n ls).0 kept);
+}

@@ -5,15 +5,12 @@ use Rattle.std.proofs.lemmas.Bool.{false≢true}
 use Rattle.answers.specs.declared.run.Outcome.{Outcome}
 use Rattle.answers.specs.declared.run.Outcome.TheVariants.{Met, NoneMeets, Spent, Full}
 use Rattle.answers.specs.declared.refusal.Refusal.TheVariants.{NotOpen, BudgetTooLarge}
-use Rattle.words.specs.Bits.{width}
 use Rattle.clauses.specs.Literals.{names}
 use Rattle.clauses.specs.Values.{assigned}
 use Rattle.clauses.specs.Clauses.{within, meets, empty}
 use Rattle.lines.proofs.Resolution.{empty-meets}
 use Rattle.guides.specs.Ranks.{Rank}
 use Rattle.clause_laws.proofs.Assignments.{all_met}
-use Rattle.clause_laws.specs.Facts.{FourFacts}
-use Rattle.clause_laws.proofs.Facts.{four_facts}
 use Rattle.clause_laws.proofs.Found.{found}
 use Rattle.lines.specs.Lines.{clauses_in}
 use Rattle.histories.specs.States.{Limits, State, is_open}
@@ -25,7 +22,7 @@ use Rattle.clause_laws.proofs.Books.{kept_facts}
 use Rattle.histories.proofs.Moves.{due_serves}
 use Rattle.histories.proofs.Potential.{potential, potential_agrees}
 use Rattle.histories.proofs.Runs.{Told, run_told}
-use Rattle.histories.proofs.Beside.{Slow, Beside, slow_start, Good, Step, refused_step, tested, open_some}
+use Rattle.histories.proofs.Beside.{refuting, Slow, Beside, slow_start, Good, Step, refused_step, tested, open_some}
 
 some_same : (o p : Outcome) → Some o ≡ Some p → o ≡ p
 some_same o p e = cc
@@ -110,13 +107,7 @@ module _ (places : ℕ) (t : Tally) (s : State) (b : Beside places t s) (some : 
         let e = some_same r.outcome o f in
         (λ m. let h = bears (e ∙ m) in (r.left.assignment, h.0, h.1), λ can. ⊎_elim (λ m. m) (λ m. absurd (refutes (e ∙ m) can)) (met_or_none o v));
     bears = λ f. bears (some_same r.outcome Met f);
-    derives = λ f. record {
-      few = subst (λ n. n ≤ width) (sym beside_after.same_n) beside_after.fine.narrow;
-      named = subst (λ n. list_all (list_all (names n)) t.clauses ≡ true) (sym beside_after.same_n) beside_after.named;
-      ends = told.if_none (some_same r.outcome NoneMeets f);
-      begins = beside_after.origin;
-      follows = subst (λ n. FourFacts n r.left.lines) (sym beside_after.same_n) ((four_facts r.left.n r.left.lines).0 beside_after.fine.kept);
-    };
+    derives = λ f. refuting places after_run r.left r.left.lines beside_after (told.if_none (some_same r.outcome NoneMeets f)) beside_after.origin beside_after.fine.kept;
     in_time = λ f.
         ⊎_elim (λ z. absurd (told.if_spent (some_same r.outcome Spent f) z))
         (λ z. subst (λ m. after_run.steps < 6 ^ m) (sym beside_after.same_n) (low after_run.steps (potential rank r.left) (6 ^ r.left.n) z))

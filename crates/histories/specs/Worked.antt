@@ -2,7 +2,7 @@
 use Rattle.std.specs.Prelude.{◌≡◌, ℕ, ◌-◌, ◌^◌, true, false, List, [], ◌∷◌, ◌++◌, map, reverse, replicate, ℤ, pos, negsuc, codes, Some, None, Ok, Err}
 use Rattle.answers.specs.declared.run.Outcome.{Outcome}
 use Rattle.answers.specs.declared.run.Outcome.TheVariants.{Met, NoneMeets, Spent, Full}
-use Rattle.answers.specs.declared.refusal.Refusal.TheVariants.{AlreadyOpen, VariablesOutOfRange, TooManyPlaces, StartOutOfRange, NotOpen, TooManyNumbers, NoLiteral, NoFreePlace, BudgetTooLarge, NoSuchLine}
+use Rattle.answers.specs.declared.refusal.Refusal.TheVariants.{AlreadyOpen, VariablesOutOfRange, TooManyPlaces, StartOutOfRange, NotOpen, TooManyNumbers, NoLiteral, NoFreePlace, BudgetTooLarge, NoSuchLine, NoEmptyLine, BufferTooShort}
 use Rattle.answers.specs.declared.load.LoadFault.TheVariants as load
 use Rattle.answers.specs.declared.load.LoadRefusal.{LoadRefusal}
 use Rattle.answers.specs.Refusals.{call_refusal, load_refusal}
@@ -211,12 +211,13 @@ pub record Worked : Type 0 where
       map call_refusal
       (AlreadyOpen ∷ VariablesOutOfRange ∷ TooManyPlaces ∷ StartOutOfRange ∷ NotOpen
       ∷ TooManyNumbers ∷ NoLiteral ∷ NoFreePlace
-      ∷ BudgetTooLarge ∷ NoSuchLine ∷ [])
+      ∷ BudgetTooLarge ∷ NoSuchLine ∷ NoEmptyLine ∷ BufferTooShort ∷ [])
       ≡ told.refusal the_session 1 0 ∷ told.refusal the_session 2 0 ∷ told.refusal the_session 3 0
       ∷ told.refusal the_session 4 0
       ∷ told.refusal the_session 5 0 ∷ told.refusal the_book 6 0 ∷ told.refusal the_book 7 0
       ∷ told.refusal the_book 8 0
-      ∷ told.refusal the_session 17 0 ∷ told.refusal the_session 18 0 ∷ []
+      ∷ told.refusal the_session 17 0 ∷ told.refusal the_session 18 0
+      ∷ told.refusal the_session 19 0 ∷ told.refusal the_session 20 0 ∷ []
   pub load_refusals :
       map load_refusal
       (load.NotOpen ∷ load.Text TooLong ∷ load.Text (AboveVariables 12)

@@ -1,8 +1,8 @@
-// A line of the book: a clause, and where it comes from. Only this file
-// looks into an origin.
+// A line of the book: a clause, and where it comes from. Only this file looks
+// into an origin, and what writes lines out for a reader.
 ghost use Rattle.std.specs.Prelude.{◌≡◌};
 ghost use Rattle.clauses.specs.Clauses.{same};
-ghost use Rattle.lines.specs.Lines.{clause_of, given_line, resolved_line, widened_line};
+ghost use Rattle.lines.specs.Lines.{clause_of, given, given_line, resolved_line, widened_line};
 ghost use Rattle.lines.specs.Same.{lines_alike};
 
 use clauses::clause::Clause;
@@ -67,6 +67,12 @@ impl Line {
         ensures value { result ≡ self.now.origin }
     {
         self.origin
+    }
+
+    pub fn is_given(&self) -> bool
+        ensures value { result ≡ given self.now.origin }
+    {
+        matches!(self.origin, Origin::Given)
     }
 
     pub fn clause(&self) -> Clause

@@ -4,3 +4,5 @@ pub mod Pushing
 pub mod Entering
 pub mod Stepping
 pub mod Running
+pub mod Pages
+pub mod Worked

@@ -1,5 +1,5 @@
 // The session. Its calls are in session/calls.rt, session/adding.rt,
-// session/loading.rt and session/running.rt.
+// session/loading.rt, session/running.rt and session/telling.rt.
 ghost use Rattle.std.specs.Prelude.{◌≡◌, ◌≤◌, ◌<◌, ◌^◌, true, length};
 ghost use Rattle.guides.specs.declared.row.TheConstants.{MOST_LINES};
 ghost use Rattle.words.specs.Bits.{width};
@@ -10,6 +10,7 @@ pub mod adding;
 pub mod calls;
 pub mod loading;
 pub mod running;
+pub mod telling;
 
 use lines::line::Line;
 use table::filled::Filled;

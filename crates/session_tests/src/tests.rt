@@ -1,5 +1,6 @@
 use answers::load::{LoadFault, LoadRefusal};
 use answers::refusal::Refusal;
+use answers::report::Report;
 use answers::run::{Outcome, Ran};
 use clauses::clause::Clause;
 use guides::longest::LongestFirst;
@@ -183,5 +184,83 @@ fn most_variables(rt: HostRuntime) -> Result<(), Fail> {
         }
     );
     assert_eq!(rt; session.assignment(), u64::MAX - 1);
+    Ok(())
+}
+
+// The sheet of the run on all four clauses of two variables.
+const SHEET: &str = "2\n4\n1 2 0\n-1 2 0\n1 -2 0\n-1 -2 0\n\
+    5\n1 1 2\n1 3 4\n2 3 1\n2 4 2\n2 6 5\n";
+
+// The same, one step short, with the empty clause given.
+const SHEET_GIVEN_LAST: &str = "2\n5\n1 2 0\n-1 2 0\n1 -2 0\n-1 -2 0\n0\n\
+    4\n1 1 2\n1 3 4\n2 3 1\n2 4 2\n";
+
+// All four clauses of two variables, run to an empty line.
+fn refuted(session: &mut Session<'_>) -> Result<(), Fail> {
+    session.open(2, 0)?;
+    session.load(b"p cnf 2 4\n1 2 0\n-1 2 0\n1 -2 0\n-1 -2 0\n")?;
+    session.run(&LongestFirst, 7)?;
+    Ok(())
+}
+
+#[test]
+fn sheet_of_the_four(rt: HostRuntime) -> Result<(), Fail> {
+    let mut places = [Line::given(Clause { pos: 0, neg: 0 }); 9];
+    let mut session = Session::new(&mut places);
+    let mut buffer = [170; 66];
+    assert_eq!(rt; session.sheet(&mut buffer), Err(Refusal::NotOpen));
+    refuted(&mut session)?;
+    assert_eq!(rt;
+        session.sheet(&mut buffer[..63]),
+        Err(Refusal::BufferTooShort)
+    );
+    assert!(rt; buffer.iter().all(|b| *b == 170));
+    assert_eq!(rt; session.sheet(&mut buffer)?, 64);
+    let (sheet, rest) = buffer.split_at(64);
+    assert!(rt; sheet == SHEET.as_bytes());
+    assert!(rt; rest == [170, 170].as_slice());
+    Ok(())
+}
+
+// A given line after derived ones: these come last in the sheet, under other
+// numbers. Before it there is no sheet.
+#[test]
+fn given_lines_first(rt: HostRuntime) -> Result<(), Fail> {
+    let mut places = [Line::given(Clause { pos: 0, neg: 0 }); 9];
+    let mut session = Session::new(&mut places);
+    let mut buffer = [170; 80];
+    session.open(2, 0)?;
+    session.load(b"p cnf 2 4\n1 2 0\n-1 2 0\n1 -2 0\n-1 -2 0\n")?;
+    session.run(&LongestFirst, 6)?;
+    assert_eq!(rt; session.sheet(&mut buffer), Err(Refusal::NoEmptyLine));
+    session.add(&[])?;
+    let length = session.sheet(&mut buffer)?;
+    assert!(rt; &buffer[..length.min(80)] == SHEET_GIVEN_LAST.as_bytes());
+    Ok(())
+}
+
+#[test]
+fn reports(rt: HostRuntime) -> Result<(), Fail> {
+    let mut places = [Line::given(Clause { pos: 0, neg: 0 }); 9];
+    let mut session = Session::new(&mut places);
+    let mut buffer = [170; 30];
+    let met = Report::Ended(Outcome::Met);
+    assert_eq!(rt; session.report(met, &mut buffer)?, 18);
+    assert!(rt; buffer.starts_with(b"s SATISFIABLE\nv 0\n"));
+    session.open(2, 2)?;
+    let mut short = [170; 22];
+    assert_eq!(rt;
+        session.report(met, &mut short),
+        Err(Refusal::BufferTooShort)
+    );
+    assert!(rt; short.iter().all(|b| *b == 170));
+    assert_eq!(rt; session.report(met, &mut buffer)?, 23);
+    assert!(rt; buffer.starts_with(b"s SATISFIABLE\nv -1 2 0\n\xaa"));
+    let fault = Report::Refused {
+        number: 13,
+        place: 12,
+    };
+    assert_eq!(rt; session.report(fault, &mut buffer)?, 19);
+    assert!(rt; buffer.starts_with(b"c refused 13 at 12\n"));
     Ok(())
 }

@@ -26,9 +26,10 @@ use Rattle.histories.specs.Tallies.{Tally, appended, tally}
 use Rattle.histories.proofs.Histories.{reached_beside, allowed}
 use Rattle.histories.proofs.Beside.{unopened_none}
 use Rattle.histories.proofs.Loading.{appended_n}
-use Rattle.solve.specs.declared.answer.Fault.{Fault}
-use Rattle.solve.specs.declared.answer.Fault.TheVariants.{Session, Load}
-use Rattle.solve.specs.Answers.{Told, unless_refused, called, told_of, found}
+use Rattle.solve.specs.declared.fault.Fault.{Fault}
+use Rattle.solve.specs.declared.fault.Fault.TheVariants.{Session, Load}
+use Rattle.pages.specs.Reports.{Told, told_of}
+use Rattle.solve.specs.Answers.{unless_refused, called, found}
 use Rattle.solve.proofs.Playing.{load_some}
 
 -- ---- what a load takes

@@ -9,7 +9,7 @@ use Rattle.std.proofs.lemmas.Bool.{cond-true, lt-ltb, cases_lt}
 use Rattle.std.proofs.lemmas.List.{take_all, length-take-le}
 use Rattle.text.specs.declared.faults.TextFault.TheVariants.{TooLong}
 use Rattle.text.specs.Problem.{head_of}
-use Rattle.solve.specs.declared.answer.Fault.TheVariants.{Head}
+use Rattle.solve.specs.declared.fault.Fault.TheVariants.{Head}
 use Rattle.solve.specs.Answers.{most_input, headed, solved, output, printed}
 
 too_long : (text : List ℕ) → most_input < length text → solved text ≡ Err (Head TooLong)

@@ -1,4 +1,3 @@
-pub mod Printing
 pub mod Playing
 pub mod Ending
 pub mod Saying

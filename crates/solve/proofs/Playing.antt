@@ -12,8 +12,9 @@ use Rattle.answers.specs.declared.run.Ran.{Ran}
 use Rattle.answers.specs.Refusals.{load_refusal}
 use Rattle.histories.specs.States.{State, session_limits, unopened}
 use Rattle.histories.specs.Calls.{opens, loads, runs, opened, loaded, ran, does}
-use Rattle.solve.specs.declared.answer.Fault.TheVariants.{Head}
-use Rattle.solve.specs.Answers.{most_input, unless_refused, called, found, headed, told_of, solved}
+use Rattle.solve.specs.declared.fault.Fault.TheVariants.{Head}
+use Rattle.pages.specs.Reports.{told_of}
+use Rattle.solve.specs.Answers.{most_input, unless_refused, called, found, headed, solved}
 
 -- no refusal of a load has the number 0
 pub load_some : (f : LoadFault) → eqb (text.number_of (load_refusal f)) 0 ≡ false

@@ -12,8 +12,8 @@ use Rattle.answers.specs.declared.run.Ran.{Ran}
 use Rattle.histories.specs.States.{State, session_limits}
 use Rattle.histories.specs.Guarantees.{meets_all}
 use Rattle.histories.proofs.Histories.{every_history, allowed}
-use Rattle.solve.specs.declared.answer.Fault.{Fault}
-use Rattle.solve.specs.Answers.{most_input, Told, told_of, headed, solved}
+use Rattle.pages.specs.Reports.{told_of}
+use Rattle.solve.specs.Answers.{most_input, headed, solved}
 use Rattle.solve.specs.Promises.{Saying, Judges, Solves, SaysSo}
 use Rattle.solve.proofs.Ending.{xss, Whole, by_ending}
 use Rattle.solve.proofs.Saying.{HasVariables, said_head, said_reading, reading_said}
@@ -66,13 +66,11 @@ module _ (text : List ℕ) (short : length text ≤ most_input) where
 
 -- ---- whatever the text's length
 
-pub solves : (text : List ℕ) (r : Result Told Fault) → r ≡ solved text → Solves text r
-solves text r e =
-    subst (Solves text) (sym e)
-    (cond_both (ltb most_input (length text)) _ _ (Solves text) (λ _. tt) (λ few. headed_solves text (ltb-false _ _ few) (head_of text) refl))
+pub solves : (text : List ℕ) → Solves text (solved text)
+solves text =
+    cond_both (ltb most_input (length text)) _ _ (Solves text) (λ _. tt) (λ few. headed_solves text (ltb-false _ _ few) (head_of text) refl)
 
-pub says_so : (text : List ℕ) (r : Result Told Fault) → r ≡ solved text → SaysSo text r
-says_so text r e =
-    subst (SaysSo text) (sym e)
-    (cond_both (ltb most_input (length text)) _ _ (SaysSo text)
-    (λ long short. absurd (omega (arith, ltb-true _ _ long))) (λ few. headed_says text (ltb-false _ _ few) (head_of text) refl))
+pub says_so : (text : List ℕ) → SaysSo text (solved text)
+says_so text =
+    cond_both (ltb most_input (length text)) _ _ (SaysSo text)
+    (λ long short. absurd (omega (arith, ltb-true _ _ long))) (λ few. headed_says text (ltb-false _ _ few) (head_of text) refl)

@@ -1,23 +1,22 @@
 -- What the program answers to a text, and what it prints. Assumes nothing.
-use Rattle.std.specs.Prelude.{ℕ, ◌+◌, Bool, true, false, cond, List, [], ◌∷◌, ◌++◌, length, ℤ, pos, neg_ℤ, Ok, Err, codes, decimal, Result, ◌==◌, nat_lt}
-use Rattle.std.specs.Fmt.{signed_decimal}
+use Rattle.std.specs.Prelude.{ℕ, cond, List, length, Ok, Err, Result, ◌==◌, nat_lt}
 use Rattle.text.specs.declared.faults.TextFault.{TextFault}
 use Rattle.text.specs.declared.faults.TextFault.TheVariants.{TooLong}
 use Rattle.text.specs.Problem.{head_of}
 use Rattle.text.specs.Refusals.{text_refusal, number_of, place_of}
 use Rattle.text.specs.Refusals as text
-use Rattle.clauses.specs.Values.{truths}
 use Rattle.guides.specs.Ranks.{longest_first}
 use Rattle.answers.specs.declared.run.Outcome.{Outcome}
-use Rattle.answers.specs.declared.run.Outcome.TheVariants.{Met, NoneMeets, Spent, Full}
+use Rattle.answers.specs.declared.report.Report.{Report}
+use Rattle.answers.specs.declared.report.Report.TheVariants.{Ended, Refused}
 use Rattle.answers.specs.Refusals.{call_refusal, load_refusal}
+use Rattle.writing.specs.Items.{bytes}
+use Rattle.pages.specs.Reports.{Told, undecided, told_of, told_items, refusal_items}
 use Rattle.histories.specs.States.{State, session_limits, unopened}
 use Rattle.histories.specs.Calls.{opens, loads, runs, Answer, opened, added, loaded, restarted, ran, does}
 use Rattle.histories.specs.Logs.{refusal_number}
-use Rattle.solve.specs.declared.answer.Reply.{Reply}
-use Rattle.solve.specs.declared.answer.Reply.TheVariants.{Satisfiable, Unsatisfiable, Unknown}
-use Rattle.solve.specs.declared.answer.Fault.{Fault}
-use Rattle.solve.specs.declared.answer.Fault.TheVariants.{Head, Session, Load}
+use Rattle.solve.specs.declared.fault.Fault.{Fault}
+use Rattle.solve.specs.declared.fault.Fault.TheVariants.{Head, Session, Load}
 
 -- bytes that the program takes
 abbrev pub most_input : ℕ
@@ -37,18 +36,6 @@ called text n =
     (λ t. does session_limits 1000 t (runs longest_first 100000)))
 
 -- ---- what they come to
-
--- an assignment of the variables, no assignment, or neither
-pub data Told : Type 0 where
-  satisfied : List Bool → Told
-  refuted : Told
-  undecided : Told
-
-abbrev pub told_of : Outcome → List Bool → Told
-told_of Met a = satisfied a
-told_of NoneMeets a = refuted
-told_of Spent a = undecided
-told_of Full a = undecided
 
 -- A run ends the calls, or an open or a load that is refused. No other answer
 -- does: the last four cases do not come.
@@ -71,15 +58,10 @@ abbrev pub solved : List ℕ → Result Told Fault
 solved text =
     cond (nat_lt most_input (length text)) (Err (Head TooLong)) (headed text (head_of text))
 
--- the same of the code's reply
-abbrev pub meant : Reply → Told
-meant (Satisfiable a) = satisfied (truths a.n a.word)
-meant Unsatisfiable = refuted
-meant Unknown = undecided
-
-abbrev pub meant_in : Result Reply Fault → Result Told Fault
-meant_in (Ok v) = Ok (meant v)
-meant_in (Err f) = Err f
+-- the same of what the code's calls come to
+abbrev pub told_in : Result Outcome Fault → State → Result Told Fault
+told_in (Ok o) s = Ok (told_of o s.assignment)
+told_in (Err f) s = Err f
 
 -- ---- what it prints
 
@@ -89,28 +71,15 @@ fault_refusal (Head f) = text_refusal f
 fault_refusal (Session r) = call_refusal r
 fault_refusal (Load f) = load_refusal f
 
--- variable v as the literal of it that is true
-abbrev pub literal : ℕ → Bool → ℤ
-literal v true = pos v
-literal v false = neg_ℤ (pos v)
+-- what is reported of a run that ended so, or of a refusal
+abbrev pub report_of : Result Outcome Fault → Report
+report_of (Ok o) = Ended o
+report_of (Err f) = Refused (number_of (fault_refusal f)) (place_of (fault_refusal f))
 
--- the literals that are true, a space after each, where the first variable is v
-abbrev pub literals_from : ℕ → List Bool → List ℕ
-literals_from v [] = []
-literals_from v (b ∷ a) = signed_decimal (literal v b) ++ (32 ∷ literals_from (v + 1) a)
-
--- what stands after `s SATISFIABLE`: a line of v, the literals that are true by
--- variable, and 0
-abbrev pub literal_line : List Bool → List ℕ
-literal_line a = 10 ∷ codes "v " ++ (literals_from 1 a ++ (48 ∷ 10 ∷ []))
-
+-- the bytes are those of the report
 abbrev pub printed : Result Told Fault → List ℕ
-printed (Ok (satisfied a)) = codes "s SATISFIABLE" ++ literal_line a
-printed (Ok refuted) = codes "s UNSATISFIABLE" ++ (10 ∷ [])
-printed (Ok undecided) = codes "s UNKNOWN" ++ (10 ∷ [])
-printed (Err f) =
-    codes "c refused " ++ (decimal (number_of (fault_refusal f))
-    ++ (codes " at " ++ (decimal (place_of (fault_refusal f)) ++ (10 ∷ []))))
+printed (Ok t) = bytes (told_items t)
+printed (Err f) = bytes (refusal_items (number_of (fault_refusal f)) (place_of (fault_refusal f)))
 
 -- the bytes that it prints to a text
 abbrev pub output : List ℕ → List ℕ

@@ -6,10 +6,12 @@ use Rattle.text.specs.Limits.{most_variables}
 use Rattle.text.specs.Refusals.{number_of}
 use Rattle.text_laws.specs.Writing.{Writable, saying}
 use Rattle.histories.specs.Guarantees.{meets_all}
-use Rattle.solve.specs.declared.answer.Fault.{Fault}
+use Rattle.solve.specs.declared.fault.Fault.{Fault}
 use Rattle.solve.specs.declared.streams.Failure.{Failure}
-use Rattle.solve.specs.declared.streams.Failure.TheVariants.{Unread, NoMemory, Unwritten}
-use Rattle.solve.specs.Answers.{most_input, Told, satisfied, refuted, undecided, fault_refusal, literal_line}
+use Rattle.solve.specs.declared.streams.Failure.TheVariants.{Unread, Unwritten}
+use Rattle.writing.specs.Items.{bytes}
+use Rattle.pages.specs.Reports.{Told, satisfied, refuted, undecided, literal_line}
+use Rattle.solve.specs.Answers.{most_input, fault_refusal}
 
 -- The text's words outside comments are p, cnf, n, m and those of the m clauses
 -- cs, over 1 to 64 variables.
@@ -48,21 +50,19 @@ SaysSo text (Err f) =
 
 -- Whoever reads SATISFIABLE reads the literals of an assignment that meets every
 -- clause of the text; and whoever reads UNSATISFIABLE, that none does.
-pub record Tells (text bytes : List ℕ) : Type 0 where
-  pub satisfiable : (rest : List ℕ) → bytes ≡ codes "s SATISFIABLE" ++ rest
+pub record Tells (text out : List ℕ) : Type 0 where
+  pub satisfiable : (rest : List ℕ) → out ≡ codes "s SATISFIABLE" ++ rest
       → (n : ℕ) × (cs : List (List ℤ)) × Saying text n cs
-      × ((a : List Bool) × Meets n cs a × (rest ≡ literal_line a))
-  pub unsatisfiable : (rest : List ℕ) → bytes ≡ codes "s UNSATISFIABLE" ++ rest
+      × ((a : List Bool) × Meets n cs a × (rest ≡ 10 ∷ bytes (literal_line a)))
+  pub unsatisfiable : (rest : List ℕ) → out ≡ codes "s UNSATISFIABLE" ++ rest
       → (n : ℕ) × (cs : List (List ℤ)) × Saying text n cs × ((a : List Bool) → Meets n cs a → ⊥)
 
 -- the two lines that are printed where there is no answer
-abbrev pub failure_note : List ℕ → List ℕ
-failure_note why = codes "c " ++ (why ++ (10 ∷ codes "s UNKNOWN" ++ (10 ∷ [])))
+abbrev pub failure_note : List ℕ
+failure_note = codes "c the input could not be read" ++ (10 ∷ codes "s UNKNOWN" ++ (10 ∷ []))
 
 -- What failed before a byte of an answer was tried is told, and nothing else is
 -- written.
 abbrev pub Unanswered : Option (List ℕ) → Option (List ℕ) → Failure → Type 0
-Unanswered old new Unread = Appends old new (failure_note (codes "the input could not be read"))
-Unanswered old new NoMemory =
-    Appends old new (failure_note (codes "no memory is left for the answer"))
+Unanswered old new Unread = Appends old new failure_note
 Unanswered old new Unwritten = Unit {0}

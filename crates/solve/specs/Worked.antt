@@ -2,11 +2,14 @@
 use Rattle.std.specs.Prelude.{◌≡◌, [], ◌∷◌, codes, Ok}
 use Rattle.text_laws.specs.Examples.{lined}
 use Rattle.histories.specs.Worked.{Worked}
-use Rattle.solve.specs.Answers.{undecided, printed, output}
+use Rattle.pages.specs.Reports.{undecided}
+use Rattle.session.specs.Worked.{WorkedPages}
+use Rattle.solve.specs.Answers.{printed, output}
 
 -- a last line that is empty: the one before it ends with LF
 pub record AllWorked : Type 0 where
   pub others : Worked
+  pub pages : WorkedPages
   pub satisfiable :
       output (lined (codes "p cnf 2 2" ∷ codes "1 2 0" ∷ codes "-1 0" ∷ []))
       ≡ lined (codes "s SATISFIABLE" ∷ codes "v -1 2 0" ∷ [] ∷ [])

@@ -2,7 +2,7 @@
 // It always ends with status 0.
 #![tactic(auto)]
 
-mod answer;
+mod fault;
 mod laws;
 mod solving;
 mod streams;

@@ -1,17 +1,21 @@
 // Solving a text: a session over a book of its own, opened, loaded and run.
-ghost use Rattle.std.specs.Prelude.{◌≡◌, length, string_bytes, IfOk};
-ghost use Rattle.session.specs.Sessions.{state};
+ghost use Rattle.std.specs.Prelude.{◌≡◌, Ok, length, take};
+ghost use Rattle.writing.specs.Pages.{filled};
+ghost use Rattle.histories.specs.States.{unopened};
+ghost use Rattle.session.specs.Sessions.{state, places as places_in};
 ghost use Rattle.solve.specs.Promises.{Solves, SaysSo, Tells};
-ghost use Rattle.solve.specs.Answers.{told_of, solved, meant, meant_in, output};
+ghost use Rattle.solve.specs.Answers.{told_in, report_of, solved, output};
 
-use crate::answer::{Fault, Found, Reply};
+use crate::fault::Fault;
+use answers::report::Report;
 use answers::run::Outcome;
 use clauses::clause::Clause;
 use guides::longest::LongestFirst;
 use lines::line::Line;
+use pages::report::MOST_REPORT;
 use session::session::Session;
-use std::alloc::{AllocError, Global};
 use text::faults::TextFault;
+use text::faults::telling::Telling;
 use text::problem::line::head;
 
 // Bytes that the program takes.
@@ -23,55 +27,46 @@ pub const PLACES: usize = 1_000;
 // Steps of its run.
 pub const BUDGET: u32 = 100_000;
 
-// What a run of the session comes to that ended so.
-fn reply(session: &Session<'_>, outcome: Outcome) -> Reply
-    ensures value { meant result ≡ told_of outcome (state session.now).assignment }
-{
-    match outcome {
-        Outcome::Met => Reply::Satisfiable(Found {
-            n: session.n(),
-            word: session.assignment(),
-        }),
-        Outcome::NoneMeets => Reply::Unsatisfiable,
-        Outcome::Spent | Outcome::Full => Reply::Unknown,
-    }
-}
-
-// The calls, over the places of a book.
-fn play(text: &[u8], places: &mut [Line]) -> Result<Reply, Fault>
-    requires { length places.old ≡ 1000 }
-    ensures value { meant_in result ≡ solved text.now }
+// The calls: how the run ends, or why one of them is refused.
+fn play(text: &[u8], session: &mut Session<'_>) -> Result<Outcome, Fault>
+    requires unopened { state session.old ≡ unopened }
+    requires places { places_in session.old ≡ 1000 }
+    ensures value { told_in result (state session.new) ≡ solved text.now }
 {
     if text.len() > MOST_INPUT {
         return Err(TextFault::TooLong.into());
     }
     let (variables, _) = head(text)?;
-    let mut session = Session::new(places);
     session.open(variables, 0)?;
     session.load(text)?;
     let ran = session.run(&LongestFirst, BUDGET)?;
-    Ok(reply(&session, ran.outcome))
+    Ok(ran.outcome)
 }
 
-// What the program answers to a text.
-#[tactic(auto, using(crate::proofs::Telling::solves, crate::proofs::Telling::says_so))]
-pub fn solve(text: &[u8]) -> Result<Reply, Fault>
-    ensures value { meant_in result ≡ solved text.now }
-    ensures so { Solves text.now (meant_in result) }
-    ensures said { SaysSo text.now (meant_in result) }
+// What is reported of them.
+fn report(played: &Result<Outcome, Fault>) -> Report
+    ensures value { result ≡ report_of played.now }
+{
+    match played {
+        Ok(outcome) => Report::Ended(*outcome),
+        Err(fault) => Report::Refused {
+            number: u32::from(fault.number()),
+            place: fault.place(),
+        },
+    }
+}
+
+// Writes the answer to a text into the front of a buffer, and tells its length;
+// bytes after it stay.
+#[tactic(auto, using(crate::proofs::Telling::solves, crate::proofs::Telling::says_so, crate::proofs::Told::tells_there))]
+pub fn answer(text: &[u8], buffer: &mut [u8; MOST_REPORT]) -> usize
+    ensures value { filled (output text.now) buffer.old ≡ (Ok result, buffer.new) }
+    ensures solves { Solves text.now (solved text.now) }
+    ensures said { SaysSo text.now (solved text.now) }
+    ensures tells { Tells text.now (take result buffer.new) }
 {
     let mut places = [Line::given(Clause { pos: 0, neg: 0 }); PLACES];
-    play(text, &mut places)
-}
-
-// The bytes that the program prints.
-#[tactic(auto, using(crate::proofs::Told::tells))]
-pub fn answer(alloc: Global, text: &[u8]) -> Result<String, AllocError>
-    ensures bytes { IfOk result (λ answer. string_bytes answer ≡ output text.now) }
-    ensures tells { IfOk result (λ answer. Tells text.now (string_bytes answer)) }
-{
-    match solve(text) {
-        Ok(reply) => format!(in alloc; "{reply}"),
-        Err(fault) => format!(in alloc; "{fault}"),
-    }
+    let mut session = Session::new(&mut places);
+    let played = play(text, &mut session);
+    session.report(report(&played), buffer).unwrap_or(0)
 }

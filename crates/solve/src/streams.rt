@@ -5,6 +5,7 @@ ghost use Rattle.solve.specs.Answers.{output};
 ghost use Rattle.solve.specs.Promises.{Unanswered};
 
 use crate::solving::{MOST_INPUT, answer};
+use pages::report::MOST_REPORT;
 use std::alloc::Global;
 use std::io;
 use std::io::{Read, Write};
@@ -12,10 +13,9 @@ use std::io::{Read, Write};
 // Why no answer was written, or not the whole of it.
 #[derive(Clone, Copy, PartialEq, Eq, Debug)]
 pub enum Failure {
-    // The input could not be read to its end; that was told.
+    // The input could not be read to its end, be it for want of memory; that was
+    // told.
     Unread,
-    // There is no memory for the answer; that was told.
-    NoMemory,
     // The writer failed: of what it was to write it may have a part.
     Unwritten,
 }
@@ -31,22 +31,17 @@ fn read_text<R: Read + Drop>(alloc: Global, reader: R) -> io::Result<Vec<u8>>
     Ok(text)
 }
 
-// Tells why there is no answer, where no byte of one was tried.
-fn tell<W: Write>(writer: &mut W, failure: Failure) -> Failure
+// Tells that there is no answer, where no byte of one was tried.
+fn tell_unread<W: Write>(writer: &mut W) -> Failure
     ensures told { Unanswered (W.contents writer.old) (W.contents writer.new) result }
 {
-    let note: &[u8] = match failure {
-        Failure::Unread => b"c the input could not be read\ns UNKNOWN\n",
-        Failure::NoMemory => b"c no memory is left for the answer\ns UNKNOWN\n",
-        Failure::Unwritten => return failure,
-    };
-    match writer.write_all(note) {
-        Ok(()) => failure,
+    match writer.write_all(b"c the input could not be read\ns UNKNOWN\n") {
+        Ok(()) => Failure::Unread,
         Err(_) => Failure::Unwritten,
     }
 }
 
-// Reads a text, and writes the answer to it and nothing else, or why there is
+// Reads a text, and writes the answer to it and nothing else, or that there is
 // none.
 pub fn converse<R: Read + Drop, W: Write>(
     alloc: Global,
@@ -58,12 +53,11 @@ pub fn converse<R: Read + Drop, W: Write>(
     ensures told { IfErr result (Unanswered (W.contents writer.old) (W.contents writer.new)) }
 {
     let Ok(text) = read_text(alloc, reader) else {
-        return Err(tell(writer, Failure::Unread));
+        return Err(tell_unread(writer));
     };
-    let Ok(bytes) = answer(alloc, text.as_slice()) else {
-        return Err(tell(writer, Failure::NoMemory));
-    };
-    match writer.write_all(bytes.as_bytes()) {
+    let mut buffer = [0; MOST_REPORT];
+    let length = answer(text.as_slice(), &mut buffer);
+    match writer.write_all(&buffer[..length]) {
         Ok(()) => Ok(()),
         Err(_) => Err(Failure::Unwritten),
     }

@@ -37,6 +37,9 @@ abbrev pub read_refusal : ReadFault → Refusal
 read_refusal (Text f) = text_refusal f
 read_refusal (Book f) = book_refusal f
 
+abbrev pub by_of : Refusal → Refuser
+by_of (refusal by number place) = by
+
 abbrev pub number_of : Refusal → ℕ
 number_of (refusal by number place) = number
 

@@ -1,4 +1,4 @@
-use Rattle.std.proofs.Common.{◌≡◌, length, Ok, refl, sym, ap, ◌∙◌}
+use Rattle.std.proofs.Common.{◌≡◌, refl, sym, ap, ◌∙◌}
 use Rattle.guides.specs.Ranks.{longest_first}
 use Rattle.histories.specs.States.{unopened}
 use Rattle.histories.specs.Calls.{opens, opened, loads, loaded, runs, ran}
@@ -11,18 +11,17 @@ pub returns : goal.returns
 returns c =
     let text = c.args.text.now in
     let n = c.in_ok-variables.variables in
-    let new = c.new-session.result in
+    let new = c.args.session.now in
     let a = c.open.new.self in
     let b = c.load.new.self in
     let d = c.run.new.self in
-    let count : places new ≡ 1000 = ap length c.new-session.ensures.places ∙ c.requires in
+    let count : places new ≡ 1000 = c.requires.places in
     let count_a : places a ≡ 1000 = c.open.ensures.keeps.count ∙ count in
     let count_b : places b ≡ 1000 = c.load.ensures.keeps.count ∙ count_a in
-    let e = retold _ 1000 _ unopened (state a) (opens n 0) _ _ count c.new-session.ensures.unopened (ap opened c.in_ok-open.was) c.open.ensures.guaranteed.does_so in
+    let e = retold _ 1000 _ unopened (state a) (opens n 0) _ _ count c.requires.unopened (ap opened c.in_ok-open.was) c.open.ensures.guaranteed.does_so in
     let f = retold _ 1000 _ (state a) (state b) (loads text) _ _ count_a refl (ap loaded c.in_ok-load.was) c.load.ensures.guaranteed.does_so in
     let g = retold _ 1000 _ (state b) (state d) (runs longest_first 100000) _ _ count_b refl (ap ran c.in_ok-ran.was) c.run.ensures.guaranteed.does_so in
     let h = sym c.head.ensures.value ∙ c.in_ok-variables.was in
     record {
-      value = ap Ok c.reply.ensures.value
-          ∙ sym (solved_so text n c.in_ok-variables.field-0-1 c.if-text-gt-MOST_INPUT.false h ∙ ran_so text n (state a) (state b) (state d) _ _ _ e f g);
+      value = sym (solved_so text n c.in_ok-variables.field-0-1 c.if-text-gt-MOST_INPUT.false h ∙ ran_so text n (state a) (state b) (state d) _ _ _ e f g);
     }

@@ -1,0 +1,11 @@
+pub mod Counting
+pub mod Rows
+pub mod Filters
+pub mod Placing
+pub mod Following
+pub mod Arranged
+pub mod Trues
+pub mod Short
+pub mod Closed
+pub mod Verdicts
+pub mod Entries

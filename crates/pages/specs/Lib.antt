@@ -1,0 +1,4 @@
+pub mod Says
+pub mod Numberings
+pub mod Laws
+pub mod Reports

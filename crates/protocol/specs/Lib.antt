@@ -1,0 +1,5 @@
+pub mod Commands
+pub mod Reading
+pub mod Said
+pub mod Telling
+pub mod Worked

@@ -1,0 +1,8 @@
+// Calls of a session and their answers as lines of text.
+#![tactic(auto)]
+
+pub mod answer;
+pub mod call;
+pub mod limits;
+pub mod reading;
+pub mod telling;

@@ -1,0 +1,3 @@
+pub mod Lists
+pub mod Playing
+pub mod Worked

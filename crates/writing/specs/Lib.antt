@@ -1,0 +1,3 @@
+pub mod Items
+pub mod Pages
+pub mod Told
