@@ -2,6 +2,7 @@
 ghost use Rattle.answers.specs.Refusals.{call_refusal};
 
 use text::faults::telling::Telling;
+use text::faults::{Refuser, Told};
 
 #[derive(Clone, Copy, PartialEq, Eq, Debug)]
 pub enum Refusal {
@@ -31,28 +32,29 @@ pub enum Refusal {
     BufferTooShort,
 }
 
+// These calls read no text, so they are refused at place 0.
 impl Telling for Refusal {
     ghost refusal = { call_refusal };
 
-    fn number(&self) -> u8 {
-        match self {
-            Refusal::AlreadyOpen => 1,
-            Refusal::VariablesOutOfRange => 2,
-            Refusal::TooManyPlaces => 3,
-            Refusal::StartOutOfRange => 4,
-            Refusal::NotOpen => 5,
-            Refusal::TooManyNumbers => 6,
-            Refusal::NoLiteral => 7,
-            Refusal::NoFreePlace => 8,
-            Refusal::BudgetTooLarge => 17,
-            Refusal::NoSuchLine => 18,
-            Refusal::NoEmptyLine => 19,
-            Refusal::BufferTooShort => 20,
+    fn told(&self) -> Told {
+        let (refuser, number) = match self {
+            Refusal::AlreadyOpen => (Refuser::Session, 1),
+            Refusal::VariablesOutOfRange => (Refuser::Session, 2),
+            Refusal::TooManyPlaces => (Refuser::Session, 3),
+            Refusal::StartOutOfRange => (Refuser::Session, 4),
+            Refusal::NotOpen => (Refuser::Session, 5),
+            Refusal::TooManyNumbers => (Refuser::Book, 6),
+            Refusal::NoLiteral => (Refuser::Book, 7),
+            Refusal::NoFreePlace => (Refuser::Book, 8),
+            Refusal::BudgetTooLarge => (Refuser::Session, 17),
+            Refusal::NoSuchLine => (Refuser::Session, 18),
+            Refusal::NoEmptyLine => (Refuser::Session, 19),
+            Refusal::BufferTooShort => (Refuser::Session, 20),
+        };
+        Told {
+            refuser,
+            number,
+            place: 0,
         }
-    }
-
-    // These calls read no text.
-    fn place(&self) -> usize {
-        0
     }
 }

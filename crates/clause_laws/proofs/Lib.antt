@@ -8,3 +8,5 @@ pub mod ReadingOff
 pub mod Bar
 pub mod Holding
 pub mod Facts
+pub mod Critical
+mod Valued

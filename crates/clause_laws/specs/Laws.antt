@@ -1,13 +1,37 @@
 -- What holds of clauses and books, said of all of them. Assumes nothing.
-use Rattle.std.specs.Prelude.{◌≡◌, ℕ, ◌^◌, ◌<◌, ◌≤◌, Bool, true, false, not, ◌&&◌, ◌||◌, List, length, ℤ, ◌==◌, unsigned_abs}
-use Rattle.words.specs.Bits.{width, bit, listed}
+use Rattle.std.specs.Prelude.{◌≡◌, ℕ, ◌^◌, ◌<◌, ◌≤◌, Bool, true, false, not, ◌&&◌, ◌||◌, List, length, ℤ, pos, ◌==◌, nat_eq, unsigned_abs}
+use Rattle.words.specs.Bits.{width, bit, listed, variables, in_word}
 use Rattle.std.specs.List.{list_any, list_all}
-use Rattle.clauses.specs.Values.{Values, is_true, is_false, assigned, full}
+use Rattle.clauses.specs.declared.value.Value.TheVariants.{Unset}
+use Rattle.clauses.specs.Values.{Values, is_true, is_false, assigned, full, partly}
 use Rattle.clauses.specs.Sets.{SetOf}
 use Rattle.clauses.specs.Literals.{names, same_literal, value_of, among, met, tautology, set_size}
 use Rattle.clauses.specs.Clauses.{Signs, holds, literals, size, empty, clean, within, meets, broken, same, included, clash_in, resolvent, critical, bar}
 use Rattle.lines.specs.Lines.{Candidate, clauses_in, givens_in, apart, keeps_facts}
 use Rattle.lines.specs.ReadingOff.{closed, breaks, read_off}
+
+-- ---- valuations
+
+-- Only a literal has a value: 0 has none, whatever is said of the variables, and
+-- neither has a number that names none of 64 variables under an assignment of
+-- them.
+abbrev pub OnlyLiteralsHaveValues : Type 0
+OnlyLiteralsHaveValues =
+    ((m : Values) → value_of m (pos 0) ≡ Unset)
+    × ((word : ℕ) (l : ℤ) → names width l ≡ false → value_of (full word) l ≡ Unset)
+
+-- A partial valuation says of the variables of its set what the assignment says,
+-- and nothing of the others, whatever the word has there.
+abbrev pub APartialSaysItsSet : Type 0
+APartialSaysItsSet =
+    (set word v : ℕ)
+    → (in_word v set ≡ true
+    → value_of (partly set word) (pos v) ≡ value_of (full word) (pos v))
+    × (in_word v set ≡ false → value_of (partly set word) (pos v) ≡ Unset)
+
+-- A word has just the variables that are listed of it.
+abbrev pub AWordHasWhatIsListed : Type 0
+AWordHasWhatIsListed = (word v : ℕ) → in_word v word ≡ list_any (nat_eq v) (variables word)
 
 -- ---- clauses in terms of their literals
 

@@ -1,7 +1,14 @@
 // A theorem is asked for where a contract names it, so each stands on a
 // function; the functions themselves do nothing.
 ghost use Rattle.clause_laws.specs.Facts.{KeepingIsTheFourFacts, AResolventHoldsTheRest, ToldInRisingOrder};
-ghost use Rattle.clause_laws.specs.Laws.{AClauseIsItsLiterals, ValuesJudgeByLiterals, TestsJudgeByLiterals, EdgesAreMetSo, BrokenOrMet, OnlyItsVariablesCount, AGivenClauseIsItsSet, ResolutionIsSound, ResolutionHasNoOrder, WideningIsSound, GivenMetThenAll, EmptyLineRefutes, AtMostThreeToTheN, ReadingOffBreaksNone, TheBarIsBroken};
+ghost use Rattle.clause_laws.specs.Laws.{OnlyLiteralsHaveValues, APartialSaysItsSet, AWordHasWhatIsListed, AClauseIsItsLiterals, ValuesJudgeByLiterals, TestsJudgeByLiterals, EdgesAreMetSo, BrokenOrMet, OnlyItsVariablesCount, AGivenClauseIsItsSet, ResolutionIsSound, ResolutionHasNoOrder, WideningIsSound, GivenMetThenAll, EmptyLineRefutes, AtMostThreeToTheN, ReadingOffBreaksNone, TheBarIsBroken};
+
+// Words and valuations say what they should of variables.
+pub fn valuations_are_told()
+    ensures literals { OnlyLiteralsHaveValues }
+    ensures partial { APartialSaysItsSet }
+    ensures listed { AWordHasWhatIsListed }
+{}
 
 // The definitions by places say what they should of the literals.
 pub fn clauses_are_sets()

@@ -7,6 +7,7 @@ ghost use Rattle.clauses.specs.Literals.{names};
 ghost use Rattle.clauses.specs.Splitting.{Splits};
 ghost use Rattle.clauses.specs.Words.{signs};
 
+use crate::literal::opposite;
 use words::sets;
 
 // A set of literals over 64 variables: bit v - 1 of `pos` for v, of `neg`
@@ -93,7 +94,7 @@ impl Clause {
         ensures splits { Splits (literals (signs self.now)) result }
     {
         let v = sets::lowest(self.pos | self.neg)? as i32;
-        let literal = if self.holds(v) { v } else { -v };
+        let literal = if self.holds(v) { v } else { opposite(v)? };
         Some((literal, self.without(literal)))
     }
 }

@@ -4,7 +4,7 @@ use Rattle.std.proofs.Math.Nat.{pow-succ', mul-le-mul_right}
 use Rattle.std.proofs.lemmas.Bool.{ltb-true, lt-ltb, le-ltb, cases_lt, cases_order}
 use Rattle.std.proofs.lemmas.List.{get_or_past}
 use Rattle.std.proofs.lemmas.List.Sums.{sum_by-cons}
-use Rattle.guides.specs.declared.row.TheConstants.{LENGTHS}
+use Rattle.limits.specs.Limits.{lengths}
 use Rattle.guides.specs.Rows.{Counts, count, Fit}
 use Rattle.guides.specs.Ranks.{better, weighted_from, longest_first, FewerAtTheLongest, PutsLengthFirst}
 use Rattle.guides.specs.Laws.{LongestFirstReadBothWays}
@@ -104,13 +104,13 @@ both_readings a b fa fb =
     (λ lower. lower_rank_has_fewer a b fa fb (ltb-true _ _ lower), λ fewer. lt-ltb _ _ (fewer_ranks_lower a b fa fb fewer))
 
 -- past the last entry any two rows are equal
-equal_past_the_end : (k : ℕ) (a b : Counts) → Fit a → Fit b → ((j : ℕ) → k ≤ j → j < LENGTHS → count j a ≡ count j b)
+equal_past_the_end : (k : ℕ) (a b : Counts) → Fit a → Fit b → ((j : ℕ) → k ≤ j → j < lengths → count j a ≡ count j b)
     → (j : ℕ) → k ≤ j → count j a ≡ count j b
 equal_past_the_end k a b fa fb same j h =
-    ⊎_elim (same j h) (λ past. get_or_past a j 0 (omega arith) ∙ sym (get_or_past b j 0 (omega arith))) (cases_lt j LENGTHS)
+    ⊎_elim (same j h) (λ past. get_or_past a j 0 (omega arith) ∙ sym (get_or_past b j 0 (omega arith))) (cases_lt j lengths)
 
 -- where rows that are equal beyond a place differ at it, this place decides
-pub place_decides : (k : ℕ) (a b : Counts) → Fit a → Fit b → count k a ≢ count k b → ((j : ℕ) → k < j → j < LENGTHS → count j a ≡ count j b)
+pub place_decides : (k : ℕ) (a b : Counts) → Fit a → Fit b → count k a ≢ count k b → ((j : ℕ) → k < j → j < lengths → count j a ≡ count j b)
     → nat_lt (count k a) (count k b) ≡ better longest_first a b
 place_decides k a b fa fb differ same = ⊎_elim (λ e. absurd (differ e)) (⊎_elim less more) (cases_order (count k a) (count k b))
   where
@@ -124,7 +124,7 @@ place_decides k a b fa fb differ same = ⊎_elim (λ e. absurd (differ e)) (⊎_
     more h = let r = fewer_ranks_lower b a fb fa (k, h, λ j l. sym (beyond j l)) in le-ltb _ _ (omega arith) ∙ sym (le-ltb _ _ (omega arith))
 
 -- of rows that are equal at every length neither is better
-pub equal_beat_neither : (a b : Counts) → Fit a → Fit b → ((j : ℕ) → j < LENGTHS → count j a ≡ count j b) → better longest_first a b ≡ false
+pub equal_beat_neither : (a b : Counts) → Fit a → Fit b → ((j : ℕ) → j < lengths → count j a ≡ count j b) → better longest_first a b ≡ false
 equal_beat_neither a b fa fb same =
     let all = equal_past_the_end 0 a b fa fb (λ j _. same j) in
     le-ltb _ _ (no_more_no_heavier 0 b a (fb.0 ∙ sym fa.0) (λ j. omega (arith, all j (omega arith))))

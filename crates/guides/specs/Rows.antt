@@ -1,6 +1,6 @@
 -- What a row counts. Assumes nothing.
 use Rattle.std.specs.Prelude.{◌≡◌, ℕ, ◌≤◌, List, length, sum, slice_index}
-use Rattle.guides.specs.declared.row.TheConstants.{LENGTHS, MOST_LINES}
+use Rattle.limits.specs.Limits.{lengths, most_lines}
 
 -- The entries of a row: how many lines of each length are broken, length 0
 -- first, up to 64.
@@ -13,4 +13,4 @@ count k cs = slice_index cs k
 
 -- 65 entries, in all at most 65,536
 abbrev pub Fit : Counts → Type 0
-Fit cs = (length cs ≡ LENGTHS) × (sum cs ≤ MOST_LINES)
+Fit cs = (length cs ≡ lengths) × (sum cs ≤ most_lines)

@@ -4,7 +4,8 @@ ghost use Rattle.guides.specs.Ranks.{better, longest_first, FewerAtTheLongest};
 ghost use Rattle.guides.specs.Counted.{counts, ranked_row};
 
 use crate::guide::Guide;
-use crate::row::{LENGTHS, Row};
+use crate::row::Row;
+use limits::LENGTHS;
 
 // At the largest length where two rows differ, the one with the smaller count
 // is better.

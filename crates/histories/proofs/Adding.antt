@@ -6,7 +6,7 @@ use Rattle.std.proofs.lemmas.List.Folds.{list_all-append, list_any-append}
 use Rattle.words.specs.Bits.{one_to}
 use Rattle.answers.specs.declared.refusal.Refusal.{Refusal}
 use Rattle.answers.specs.declared.refusal.Refusal.TheVariants.{AlreadyOpen, VariablesOutOfRange, TooManyPlaces, StartOutOfRange, NotOpen, TooManyNumbers, NoLiteral, NoFreePlace}
-use Rattle.text.specs.Limits.{most_literals}
+use Rattle.limits.specs.Limits.{most_literals}
 use Rattle.clauses.specs.Values.{assigned, truths}
 use Rattle.clauses.specs.Literals.{names, met, tautology}
 use Rattle.clauses.specs.Sets.{set_of}

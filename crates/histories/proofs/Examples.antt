@@ -7,6 +7,8 @@ use Rattle.clauses.specs.Values.{truths}
 use Rattle.clauses.specs.Clauses.{bar}
 use Rattle.clauses.specs.Sets.{set_of}
 use Rattle.clauses.specs.Words.{signs}
+use Rattle.clause_laws.specs.Examples.{not_one, not_two}
+use Rattle.clause_laws.proofs.Critical.{critical_on_nothing}
 use Rattle.steps.specs.Rows.{row}
 use Rattle.steps.specs.Flips.{flips}
 use Rattle.steps.specs.Writing.{learnt, barred, swept}
@@ -28,40 +30,119 @@ other_ranks = false_from_ne_true _ (λ e. let z : ◌≡◌ {A = ℕ} 65537 1 = 
 pub worked : Worked
 unfolding bit truths bar set_of signs row flips learnt barred swept move moves
 worked = record {
-  number_words = (refl, refl, refl, refl, refl, refl, refl, refl, refl);
-  sound_texts = ((refl, refl), (refl, refl), (refl, refl), (refl, refl), (refl, refl), (refl, refl), refl);
-  long_clauses = ((refl, refl), (refl, refl));
-  faulty_texts = (
-    (refl, refl),
-    (refl, refl),
-    (refl, refl),
-    (refl, refl),
-    (refl, refl),
-    (refl, refl),
-    (refl, refl),
-    (refl, refl),
-    (refl, refl),
-    (refl, refl),
-    (refl, refl),
-    (refl, refl),
-    (refl, refl),
-    (refl, refl),
-    (refl, refl),
-    (refl, refl),
-    refl,
-  );
-  resolving = (refl, refl, refl, refl);
-  becoming = (refl, refl, refl, refl, refl, refl, refl);
-  judging = (refl, refl, refl, refl, refl, refl, refl);
-  edges = (refl, refl, refl, refl, refl, refl, refl, refl, refl, refl, refl);
+  number_words = record {
+    negative = refl;
+    nought = refl;
+    largest = refl;
+    minus_nought = refl;
+    leading_nought = refl;
+    minus_alone = refl;
+    plus = refl;
+    six_digits = refl;
+    no_bytes = refl;
+  };
+  sound_texts = record {
+    two = (refl, refl);
+    two_places = refl;
+    one_line = (refl, refl);
+    many_lines = (refl, refl);
+    tabs = (refl, refl);
+    nothing = (refl, refl);
+    empty_clause = (refl, refl);
+    empty_place = refl;
+    cnf_line = (refl, refl);
+    most_variables = (refl, refl);
+    head = refl;
+  };
+  long_clauses = record {
+    ended = (refl, refl);
+    one_more = (refl, refl);
+    above = (refl, refl);
+    no_number = (refl, refl);
+  };
+  faulty_texts = record {
+    above = (refl, refl);
+    word_after = (refl, refl);
+    many_variables = (refl, refl);
+    comment_after_p = (refl, refl);
+    no_bytes = (refl, refl);
+    comment_alone = (refl, refl);
+    no_comment = (refl, refl);
+    large_c = (refl, refl);
+    percent = (refl, refl);
+    cr_in_comment = (refl, refl);
+    negative_size = (refl, refl);
+    many_clauses = (refl, refl);
+    most_clauses = (refl, refl);
+    leading_nought = (refl, refl);
+    comment_late = (refl, refl);
+    six_digits = (refl, refl);
+    long_word = (refl, refl);
+    vertical_tab = (refl, refl);
+    odd_bytes = (refl, refl);
+    ends_inside = (refl, refl);
+    ends_inside_second = (refl, refl);
+    ends_before = (refl, refl);
+    any_word_after = (refl, refl);
+    head = refl;
+  };
+  resolving = record {
+    one_clash = refl;
+    one_resolvent = refl;
+    two_clashes = refl;
+    no_resolvent = refl;
+  };
+  becoming = record {
+    both_ways = refl;
+    one_way = refl;
+    each_once = refl;
+    length_two = refl;
+    up_to_one = refl;
+    above_one = refl;
+    no_number = refl;
+  };
+  judging = record {
+    on_one = refl;
+    not_on_two = refl;
+    on_nothing = λ l. critical_on_nothing _ l _ not_one not_two refl refl refl refl;
+    all_false = refl;
+    one_unset = refl;
+    barred = refl;
+  };
+  edges = record {
+    ends_of_words = refl;
+    longest = refl;
+    within_all = refl;
+    above_all = refl;
+    last_named = refl;
+    next_named = refl;
+    longest_bar = refl;
+    nothing_held = refl;
+    nothing_broken = refl;
+    nothing_met = refl;
+    shortest_bar = refl;
+  };
   reading_off = (refl, refl, refl);
   ranking = (refl, refl, refl, refl, refl, refl);
   seven_moves = (refl, refl, refl);
   constant_guide = (refl, refl, refl, refl, refl, refl);
   reversed_guide = (refl, refl, refl, refl);
   ties = (refl, refl, refl, refl, refl, refl, refl);
-  rows = (refl, refl, refl, refl, refl, refl);
-  pairs = (refl, refl, refl);
+  rows = record {
+    entries = refl;
+    empty = refl;
+    ones = refl;
+    twos = refl;
+    threes = refl;
+    longest = refl;
+    over_two = refl;
+  };
+  pairs = record {
+    clash_twice = refl;
+    none = refl;
+    alone = refl;
+    order = refl;
+  };
   in_the_book = (refl, refl, refl);
   no_line = refl;
   no_clauses = refl;

@@ -11,7 +11,7 @@ use Rattle.text.specs.Refusals.{text_refusal, read_refusal, number_of}
 use Rattle.text.specs.declared.problem.Expected.TheVariants.{ProblemWord, FormatWord, Variables, Clauses}
 use Rattle.text.specs.declared.reader.State.{State}
 use Rattle.text.specs.declared.reader.State.TheVariants.{BeforeProblem, BetweenClauses, InsideClause, Done}
-use Rattle.text.specs.Limits.{most_bytes, most_clauses, most_literals}
+use Rattle.limits.specs.Limits.{most_bytes, most_clauses, most_literals}
 use Rattle.tokens.specs.Numbers.{number_word}
 use Rattle.tokens.specs.Words.{Piece, word, comment, pieces}
 use Rattle.text.specs.Problem.{remaining, then_clauses, then_complete}

@@ -10,7 +10,7 @@ use Rattle.answers.specs.declared.load.LoadFault.TheVariants as load
 use Rattle.answers.specs.declared.load.LoadRefusal.{LoadRefusal}
 use Rattle.answers.specs.Refusals.{load_fault}
 use Rattle.text.specs.declared.faults.BookFault.TheVariants as book
-use Rattle.text.specs.Limits.{most_literals}
+use Rattle.limits.specs.Limits.{most_literals}
 use Rattle.text.specs.Reading.{Reading, clause, well, refused, reading}
 use Rattle.clauses.specs.Values.{truths}
 use Rattle.clauses.specs.Literals.{names, tautology}

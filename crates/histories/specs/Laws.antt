@@ -1,6 +1,7 @@
 -- What holds of the tally's test of ranks, of histories, of runs and of
 -- derivations. Assumes nothing.
 use Rattle.std.specs.Prelude.{◌≡◌, ◌↔◌, ℕ, ◌≤◌, Bool, true, List, ℤ, length, map, Some, None}
+use Rattle.limits.specs.Limits.{most_lines}
 use Rattle.guides.specs.Rows.{Counts, Fit}
 use Rattle.guides.specs.Ranks.{Rank}
 use Rattle.steps.specs.Moves.{Move}
@@ -33,7 +34,7 @@ abbrev pub HistoriesLeaveWellFormed : Type 0
 HistoriesLeaveWellFormed =
     (limits : Limits) → Allowed limits → (places : ℕ) (log : Log) (s : State)
     → Reached limits places log s
-    → WellFormed s × (length s.lines ≤ places) × ((s.n ≡ 0 → ⊥) → places ≤ 65536)
+    → WellFormed s × (length s.lines ≤ places) × ((s.n ≡ 0 → ⊥) → places ≤ most_lines)
 
 -- ---- runs
 

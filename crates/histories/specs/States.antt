@@ -1,6 +1,7 @@
 -- What a session is: its variables, its lines and its assignment. Assumes
 -- nothing.
 use Rattle.std.specs.Prelude.{◌≡◌, ℕ, Bool, true, not, length, List, [], ◌∷◌, ◌++◌, ◌==◌, ◌≤◌}
+use Rattle.limits.specs.Limits.{most_variables, most_lines, most_steps}
 use Rattle.words.specs.Bits.{width}
 use Rattle.lines.specs.Lines.{Candidate, keeps_facts}
 
@@ -13,12 +14,12 @@ pub record Limits : Type 0 where
 
 -- those of a session
 abbrev pub session_limits : Limits
-session_limits = record { variables = 64; places = 65536; steps = 1000000 }
+session_limits = record { variables = most_variables; places = most_lines; steps = most_steps }
 
 -- A word has a bit for each variable, and a row can count the lines.
 pub record Allowed (l : Limits) : Type 0 where
-  pub variables : l.variables ≤ 64
-  pub places : l.places ≤ 65536
+  pub variables : l.variables ≤ width
+  pub places : l.places ≤ most_lines
 
 -- n variables, the lines oldest first, and an assignment of n truth values
 pub record State : Type 0 where

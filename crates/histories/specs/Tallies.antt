@@ -3,6 +3,7 @@ use Rattle.std.specs.Prelude.{ℕ, zero, suc, ◌+◌, ◌-◌, Bool, false, con
 use Rattle.std.specs.List.{list_all, range_with_len}
 use Rattle.answers.specs.declared.load.LoadRefusal.{LoadRefusal}
 use Rattle.text.specs.Reading.{reading, clauses_of}
+use Rattle.limits.specs.Limits.{lengths, most_lines}
 use Rattle.guides.specs.Rows.{Counts}
 use Rattle.guides.specs.Ranks.{Rank}
 use Rattle.histories.specs.Calls.{Call, opens, adds, loads, restarts, runs, Answer, opened, added, loaded, restarted, ran}
@@ -30,7 +31,7 @@ all_rows (suc k) b test =
 -- that a session can come to, a count for each length from 0 to 64.
 unfoldable pub same_ranks : Option Rank → Rank → Bool
 same_ranks None rank = false
-same_ranks (Some held) rank = all_rows 65 65536 (λ cs. held cs == rank cs)
+same_ranks (Some held) rank = all_rows lengths most_lines (λ cs. held cs == rank cs)
 
 -- each clause appended sets the steps to 0
 abbrev pub appended : Tally → List (List ℤ) → Tally

@@ -6,7 +6,7 @@ use Rattle.answers.specs.declared.refusal.Refusal.TheVariants.{AlreadyOpen, Vari
 use Rattle.answers.specs.declared.load.LoadFault.TheVariants as load
 use Rattle.answers.specs.declared.load.LoadRefusal.{LoadRefusal}
 use Rattle.answers.specs.Refusals.{call_refusal, load_refusal}
-use Rattle.text.specs.Refusals.{the_text, the_book, the_session}
+use Rattle.text.specs.declared.faults.Refuser.TheVariants as by
 use Rattle.text.specs.Refusals as told
 use Rattle.text.specs.declared.faults.TextFault.TheVariants.{TooLong, AboveVariables, WordAfterClauses}
 use Rattle.text.specs.declared.faults.BookFault.TheVariants as book
@@ -212,19 +212,19 @@ pub record Worked : Type 0 where
       (AlreadyOpen ∷ VariablesOutOfRange ∷ TooManyPlaces ∷ StartOutOfRange ∷ NotOpen
       ∷ TooManyNumbers ∷ NoLiteral ∷ NoFreePlace
       ∷ BudgetTooLarge ∷ NoSuchLine ∷ NoEmptyLine ∷ BufferTooShort ∷ [])
-      ≡ told.refusal the_session 1 0 ∷ told.refusal the_session 2 0 ∷ told.refusal the_session 3 0
-      ∷ told.refusal the_session 4 0
-      ∷ told.refusal the_session 5 0 ∷ told.refusal the_book 6 0 ∷ told.refusal the_book 7 0
-      ∷ told.refusal the_book 8 0
-      ∷ told.refusal the_session 17 0 ∷ told.refusal the_session 18 0
-      ∷ told.refusal the_session 19 0 ∷ told.refusal the_session 20 0 ∷ []
+      ≡ told.refusal by.Session 1 0 ∷ told.refusal by.Session 2 0 ∷ told.refusal by.Session 3 0
+      ∷ told.refusal by.Session 4 0
+      ∷ told.refusal by.Session 5 0 ∷ told.refusal by.Book 6 0 ∷ told.refusal by.Book 7 0
+      ∷ told.refusal by.Book 8 0
+      ∷ told.refusal by.Session 17 0 ∷ told.refusal by.Session 18 0
+      ∷ told.refusal by.Session 19 0 ∷ told.refusal by.Session 20 0 ∷ []
   pub load_refusals :
       map load_refusal
       (load.NotOpen ∷ load.Text TooLong ∷ load.Text (AboveVariables 12)
       ∷ load.Book (book.TooManyLiterals 5) ∷ load.Book (book.NoFreePlace 16) ∷ [])
-      ≡ told.refusal the_session 5 0 ∷ told.refusal the_text 9 0 ∷ told.refusal the_text 13 12
-      ∷ told.refusal the_book 6 5
-      ∷ told.refusal the_book 8 16 ∷ []
+      ≡ told.refusal by.Session 5 0 ∷ told.refusal by.Text 9 0 ∷ told.refusal by.Text 13 12
+      ∷ told.refusal by.Book 6 5
+      ∷ told.refusal by.Book 8 16 ∷ []
   -- what is read of the newest call: its refusal's number, and how a run ended
   pub no_place_added : newest_number (logged 1 too_many) ≡ 8
   pub no_place_loaded :

@@ -15,7 +15,8 @@ use Rattle.hex.proofs.HexLemmas.{decode_of-encode_lower, IsDigits-lower_digits}
 use Rattle.writing.specs.Items.{bytes}
 use Rattle.writing.specs.Told.{words_items, Unbroken}
 use Rattle.writing.proofs.Apart.{words_told}
-use Rattle.text.specs.Refusals.{Refuser, the_text, the_book, the_session}
+use Rattle.text.specs.declared.faults.Refuser.{Refuser}
+use Rattle.text.specs.declared.faults.Refuser.TheVariants as by
 use Rattle.lines.specs.declared.line.Origin.TheVariants.{Given, Resolved, Widened}
 use Rattle.answers.specs.declared.run.Outcome.{Outcome}
 use Rattle.answers.specs.declared.run.Outcome.TheVariants.{Met, NoneMeets, Spent, Full}
@@ -103,10 +104,10 @@ outcome_high NoneMeets = literal_high (codes "none") refl
 outcome_high Spent = literal_high (codes "spent") refl
 outcome_high Full = literal_high (codes "full") refl
 
-refuser_high : (by : Refuser) → Unbroken (refuser_word by)
-refuser_high the_text = literal_high (codes "text") refl
-refuser_high the_book = literal_high (codes "book") refl
-refuser_high the_session = literal_high (codes "session") refl
+refuser_high : (r : Refuser) → Unbroken (refuser_word r)
+refuser_high by.Text = literal_high (codes "text") refl
+refuser_high by.Book = literal_high (codes "book") refl
+refuser_high by.Session = literal_high (codes "session") refl
 
 ruleset high = (literal_high, decimal_high, hexadecimal_high, buffer_high, outcome_high, refuser_high)
 
@@ -125,9 +126,9 @@ number_back w = if bytes_eq w (codes "none") then None else Some (digits_value 1
 
 abbrev refuser_back : List ℕ → Refuser
 refuser_back w =
-    if bytes_eq w (codes "text") then the_text
-    else if bytes_eq w (codes "book") then the_book
-    else the_session
+    if bytes_eq w (codes "text") then by.Text
+    else if bytes_eq w (codes "book") then by.Book
+    else by.Session
 
 module _ (ws : List (List ℕ)) where
   abbrev dec : ℕ → ℕ
@@ -167,10 +168,10 @@ module _ (ws : List (List ℕ)) where
       else if first_is (codes "lines") then state (dec 1) (dec 3) (hex 5)
       else error
 
-refuser_told : (by : Refuser) → refuser_back (refuser_word by) ≡ by
-refuser_told the_text = refl
-refuser_told the_book = refl
-refuser_told the_session = refl
+refuser_told : (r : Refuser) → refuser_back (refuser_word r) ≡ r
+refuser_told by.Text = refl
+refuser_told by.Book = refl
+refuser_told by.Session = refl
 
 digits_back : (w : List ℕ) → AllDigits 10 w → number_back w ≡ Some (digits_value 10 w)
 digits_back [] h = refl
@@ -189,8 +190,8 @@ told (refused k) h = ap refused (decimal_told k h)
 told (stands (Some k)) h = ap stands (number_told (Some k) h)
 told (stands None) h = refl
 told (taken k) h = ap taken (decimal_told k h)
-told (faulty by k place t) h =
-    cc (refuser_told by, decimal_told k h.0, decimal_told place h.1.0, decimal_told t h.1.1.0)
+told (faulty r k place t) h =
+    cc (refuser_told r, decimal_told k h.0, decimal_told place h.1.0, decimal_told t h.1.1.0)
 told (headed n m) h = cc (decimal_told n h.0, decimal_told m h.1.0)
 told (head_faulty k place) h = cc (decimal_told k h.0, decimal_told place h.1.0)
 told (ended Met steps) h = ap (ended Met) (decimal_told steps h)

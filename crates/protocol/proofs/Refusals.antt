@@ -2,7 +2,8 @@
 use Rattle.std.proofs.Common.{◌≡◌, ℕ, ◌==◌, if◌then◌else◌, refl, sym, ap, ◌∙◌}
 use Rattle.text.specs.declared.faults.TextFault.TheVariants.{TooLong, NotProblemLine, TooLarge, NotNumber, AboveVariables, EndsInsideClause, WordAfterClauses, ClausesMissing}
 use Rattle.text.specs.declared.faults.BookFault.TheVariants as book
-use Rattle.text.specs.Refusals.{the_text, the_book, the_session, refusal, text_refusal, book_refusal}
+use Rattle.text.specs.declared.faults.Refuser.{Refuser}
+use Rattle.text.specs.declared.faults.Refuser.TheVariants as by
 use Rattle.text.specs.Refusals as text
 use Rattle.answers.specs.declared.load.LoadFault.{LoadFault}
 use Rattle.answers.specs.declared.load.LoadFault.TheVariants as load
@@ -46,10 +47,10 @@ pub refusals_differ : RefusalsDiffer
 refusals_differ r q e = sym (numbered_back r) ∙ ap numbered e ∙ numbered_back q
 
 -- the fault of what is told
-abbrev fault : text.Refusal → LoadFault
-fault (refusal the_session k place) = load.NotOpen
-fault (refusal the_book k place) = load.Book (if k == 6 then book.TooManyLiterals place else book.NoFreePlace place)
-fault (refusal the_text k place) = load.Text (
+abbrev fault_by : Refuser → ℕ → ℕ → LoadFault
+fault_by by.Session k place = load.NotOpen
+fault_by by.Book k place = load.Book (if k == 6 then book.TooManyLiterals place else book.NoFreePlace place)
+fault_by by.Text k place = load.Text (
     if k == 9 then TooLong
     else if k == 10 then NotProblemLine place
     else if k == 11 then TooLarge place
@@ -59,6 +60,9 @@ fault (refusal the_text k place) = load.Text (
     else if k == 15 then WordAfterClauses place
     else ClausesMissing place
     )
+
+abbrev fault : text.Refusal → LoadFault
+fault t = fault_by t.refuser t.number t.place
 
 fault_back : (f : LoadFault) → fault (load_refusal f) ≡ f
 fault_back load.NotOpen = refl

@@ -1,7 +1,9 @@
 -- What an answer line says, and its bytes. Assumes nothing.
 use Rattle.std.specs.Prelude.{ℕ, List, [], ◌∷◌, ◌++◌, Some, None, Ok, Err, codes, decimal, Option, Result}
 use Rattle.hex.specs.Hex.{encode_lower}
-use Rattle.text.specs.Refusals.{Refuser, the_text, the_book, the_session, text_refusal, number_of, place_of, by_of}
+use Rattle.text.specs.declared.faults.Refuser.{Refuser}
+use Rattle.text.specs.declared.faults.Refuser.TheVariants as by
+use Rattle.text.specs.Refusals.{text_refusal, number_of, place_of, by_of}
 use Rattle.lines.specs.declared.line.Origin.{Origin}
 use Rattle.lines.specs.declared.line.Origin.TheVariants.{Given, Resolved, Widened}
 use Rattle.answers.specs.declared.run.Outcome.{Outcome}
@@ -53,9 +55,9 @@ said answer.Error = error
 -- ---- words
 
 abbrev pub refuser_word : Refuser → List ℕ
-refuser_word the_text = codes "text"
-refuser_word the_book = codes "book"
-refuser_word the_session = codes "session"
+refuser_word by.Text = codes "text"
+refuser_word by.Book = codes "book"
+refuser_word by.Session = codes "session"
 
 abbrev pub number_word : Option ℕ → List ℕ
 number_word (Some k) = decimal k
@@ -71,8 +73,8 @@ said_words done = codes "ok" ∷ []
 said_words (refused k) = codes "refused" ∷ decimal k ∷ []
 said_words (stands k) = codes "line" ∷ number_word k ∷ []
 said_words (taken k) = codes "taken" ∷ decimal k ∷ []
-said_words (faulty by k place t) =
-    codes "fault" ∷ refuser_word by ∷ decimal k ∷ codes "at" ∷ decimal place
+said_words (faulty refuser k place t) =
+    codes "fault" ∷ refuser_word refuser ∷ decimal k ∷ codes "at" ∷ decimal place
     ∷ codes "taken" ∷ decimal t ∷ []
 said_words (headed n m) = codes "head" ∷ decimal n ∷ decimal m ∷ []
 said_words (head_faulty k place) =

@@ -1,5 +1,5 @@
 -- Worked calls and answer lines. Assumes nothing.
-use Rattle.std.specs.Prelude.{◌≡◌, ℕ, List, [], ◌∷◌, ◌++◌, ℤ, pos, negsuc, Some, None, codes, Option}
+use Rattle.std.specs.Prelude.{◌≡◌, ℕ, List, [], ◌∷◌, ◌++◌, pos, negsuc, Some, None, codes, Option}
 use Rattle.text.specs.declared.faults.TextFault.TheVariants.{AboveVariables}
 use Rattle.text.specs.declared.faults.BookFault.TheVariants.{NoFreePlace}
 use Rattle.lines.specs.Lines.{given_line, resolved_line, widened_line}

@@ -1,6 +1,9 @@
 // A call, as a line of a list names it.
 use answers::report::Report;
 
+// No size in a call is more: places, bytes of a text, bytes of a buffer.
+pub const MOST_SIZE: usize = 33_554_432;
+
 #[derive(Drop)]
 pub enum Call {
     // A new session, unopened, over so many places.

@@ -3,6 +3,5 @@
 
 pub mod answer;
 pub mod call;
-pub mod limits;
 pub mod reading;
 pub mod telling;

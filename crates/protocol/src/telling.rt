@@ -2,28 +2,26 @@
 pub mod laws;
 
 ghost use Rattle.std.specs.Prelude.{◌≡◌, string_bytes, IfOk};
-ghost use Rattle.text.specs.Refusals.{by_of};
-ghost use Rattle.answers.specs.Refusals.{load_refusal};
 ghost use Rattle.protocol.specs.Commands.{outcome_word};
 ghost use Rattle.protocol.specs.Said.{refuser_word, said_words, said_written, spoken, answer_line};
 
 use crate::answer::Answer;
-use answers::load::{LoadFault, LoadRefusal};
+use answers::load::LoadRefusal;
 use answers::refusal::Refusal;
 use answers::run::{Outcome, Ran};
 use lines::line::{Line, Origin};
 use std::alloc::{AllocError, Global};
-use text::faults::TextFault;
 use text::faults::telling::Telling;
+use text::faults::{Refuser, TextFault};
 
 // Who refused.
-fn refuser(fault: &LoadFault) -> &'static str
-    ensures word { result.now ≡ refuser_word (by_of (load_refusal fault.now)) }
+fn refuser_name(refuser: Refuser) -> &'static str
+    ensures word { result.now ≡ refuser_word refuser }
 {
-    match fault {
-        LoadFault::NotOpen => "session",
-        LoadFault::Text(_) => "text",
-        LoadFault::Book(_) => "book",
+    match refuser {
+        Refuser::Session => "session",
+        Refuser::Text => "text",
+        Refuser::Book => "book",
     }
 }
 
@@ -43,7 +41,7 @@ fn tell_fault(alloc: Global, refusal: &LoadRefusal) -> Result<String, AllocError
     ensures line { IfOk result (λ text. string_bytes text
         ≡ answer_line (Answer.Faulty refusal.now)) }
 {
-    let by = refuser(&refusal.fault);
+    let by = refuser_name(refusal.fault.refuser());
     let number = refusal.fault.number();
     let place = refusal.fault.place();
     let taken = refusal.taken;

@@ -1,19 +1,22 @@
 -- The candidates to learn, line by line and literal by literal, as the loops
 -- go through them. Assumes nothing.
-use Rattle.std.proofs.Common.{◌≡◌, ℕ, zero, suc, ◌+◌, ◌<◌, ◌≤◌, Bool, true, false, cond, List, [], ◌∷◌, ◌++◌, length, get_or, Some, None, ℤ, pos, negsuc, neg_ℤ, nat_abs, ◌-ℤ◌, FitsSigned, to_z, of_z, refl, sym, ap, ap₂, subst, ◌∙◌, arith}
+use Rattle.std.proofs.Common.{◌≡◌, ℕ, ◌+◌, ◌<◌, ◌≤◌, Bool, true, false, cond, List, [], ◌∷◌, ◌++◌, length, get_or, Some, None, ℤ, pos, negsuc, neg_ℤ, nat_abs, FitsSigned, to_z, of_z, refl, sym, ap, ap₂, subst, ◌∙◌, arith}
 use Rattle.std.specs.Int.{w32}
 use Rattle.std.specs.List.{flat_map, list_all}
-use Rattle.std.proofs.lemmas.Bool.{and_parts}
-use Rattle.std.proofs.lemmas.Int.{ints, to_z-of_z, fits_signed_from_abs}
+use Rattle.std.proofs.lemmas.Bool.{and_parts, false≢true}
+use Rattle.std.proofs.lemmas.Bool.Decides.{nat_tests}
+use Rattle.std.proofs.lemmas.Int.{to_z-of_z, fits_signed_from_abs}
 use Rattle.std.proofs.lemmas.List.{append-nil, append_assoc}
 use Rattle.lines.proofs.Stated.{length-clauses}
 use Rattle.std.proofs.lemmas.List.Sums.{list_all-from_AllPass}
 use Rattle.words.specs.Bits.{width, first}
 use Rattle.clauses.specs.declared.clause.Clause.{Clause}
-use Rattle.clauses.specs.Values.{assigned, full, truths}
-use Rattle.clauses.specs.Clauses.{Signs, holds, literals, within, broken, critical}
+use Rattle.clauses.specs.Values.{Values, assigned, full, truths}
+use Rattle.clauses.specs.Literals.{same_literal, lowest_number}
+use Rattle.clauses.specs.Clauses.{Signs, holds, holds_plus, literals, within, broken, critical}
 use Rattle.clauses.specs.Words.{signs}
 use Rattle.clauses.proofs.Literals.{within-holds}
+use Rattle.clauses.proofs.Words.{sign_past}
 use Rattle.lines.specs.declared.line.Line.{Line}
 use Rattle.lines.specs.Lines.{Candidate, candidate_of, numbered, keeps}
 use Rattle.steps.specs.Writing.{from_pair, from_literal, from_line, resolved_from, learnt}
@@ -34,19 +37,12 @@ fits_literal l h = fits_signed_from_abs w32 l (omega arith)
 pub read_literal : (l : ℤ) → nat_abs l ≤ width → to_z w32 (of_z w32 l) ≡ l
 read_literal l h = to_z-of_z w32 l (fits_literal l h)
 
-opposite_is : (l : ℤ) → pos 0 -ℤ l ≡ neg_ℤ l
-opposite_is l = omega (arith, ints)
-
-opposite-abs : (l : ℤ) → nat_abs (neg_ℤ l) ≡ nat_abs l
-opposite-abs (pos zero) = refl
-opposite-abs (pos (suc k)) = refl
-opposite-abs (negsuc k) = refl
-
-pub read_opposite : (z l : ℤ) → z ≡ l → nat_abs l ≤ width → to_z w32 (of_z w32 (pos 0 -ℤ z)) ≡ neg_ℤ l
-read_opposite z l e h = ap (λ x. to_z w32 (of_z w32 (pos 0 -ℤ x))) e ∙ ap (λ x. to_z w32 (of_z w32 x)) (opposite_is l) ∙ read_literal (neg_ℤ l) (rw (opposite-abs l) h)
-
-pub fits_opposite : (l : ℤ) → nat_abs l ≤ width → FitsSigned w32 (pos 0 -ℤ l)
-fits_opposite l h = rw (opposite_is l) (fits_literal (neg_ℤ l) (rw (opposite-abs l) h))
+-- the lowest number's opposite is a literal of no clause
+pub uncritical_past_all : (m : Values) (l : ℤ) (c : Clause) → same_literal l lowest_number ≡ true
+    → critical m (neg_ℤ l) (signs c) ≡ false
+uncritical_past_all m (pos k) c h = absurd (false≢true h)
+uncritical_past_all m (negsuc k) c h =
+    rw (ap holds_plus (sign_past c k (grind (arith, nat_tests)))) refl
 
 -- ---- candidates
 
@@ -97,13 +93,12 @@ next_held c ls rest l e h = and_parts (holds l c) (list_all (λ k. holds k c) re
 pub record Told (c : Signs) (l : ℤ) : Type 0 where
   pub small : nat_abs l ≤ width
   pub literal : to_z w32 (of_z w32 l) ≡ l
-  pub opposite : to_z w32 (of_z w32 (pos 0 -ℤ to_z w32 (of_z w32 l))) ≡ neg_ℤ (to_z w32 (of_z w32 l))
   pub held : holds (to_z w32 (of_z w32 l)) c ≡ true
 
 told : (c : Signs) (l : ℤ) → nat_abs l ≤ width → holds l c ≡ true → Told c l
 told c l h k =
     let z = read_literal l h in
-    record { small = h; literal = z; opposite = read_opposite (to_z w32 (of_z w32 l)) l z h ∙ ap neg_ℤ (sym z); held = rw z k }
+    record { small = h; literal = z; held = rw z k }
 
 -- ---- the loops over a book
 
@@ -137,35 +132,35 @@ module _ (book : Book) (word : ℕ) where
 
     -- a line that is not critical is passed
     pub uncritical :
-        (g : ℕ × Signs) (z o : ℤ) → o ≡ neg_ℤ z → false ≡ critical (full word) o (signs c) → whole ≡ flat_map (by_pair cs a g z) (left cs i) ++ after
+        (g : ℕ × Signs) (z : ℤ) → false ≡ critical (full word) (neg_ℤ z) (signs c) → whole ≡ flat_map (by_pair cs a g z) (left cs i) ++ after
         → whole ≡ flat_map (by_pair cs a g z) (left cs (i + 1)) ++ after
-    uncritical g z o q b m =
-        let no : critical (assigned a) (neg_ℤ z) (at cs i).1 ≡ false = sym (rw q at (b ∙ reads-critical book word i d c h e o)) in
+    uncritical g z b m =
+        let no : critical (assigned a) (neg_ℤ z) (at cs i).1 ≡ false = sym (b ∙ reads-critical book word i d c h e (neg_ℤ z)) in
         m ∙ ap (λ xs. xs ++ after) (candidates_more (by_pair cs a g z) cs i (inside i h) ∙ rw no refl)
 
     -- what is resolved with a critical line, from a broken one that holds the
     -- opposite literal
     resolves :
-        (g : ℕ × Signs) (z o : ℤ) → broken (assigned a) g.1 ≡ true → holds z g.1 ≡ true → o ≡ neg_ℤ z → true ≡ critical (full word) o (signs c)
+        (g : ℕ × Signs) (z : ℤ) → broken (assigned a) g.1 ≡ true → holds z g.1 ≡ true → true ≡ critical (full word) (neg_ℤ z) (signs c)
         → by_pair cs a g z (at cs i) ≡ resolved_from cs g (at cs i)
-    resolves g z o k l q b =
-        pair-resolves cs a g (at cs i) z k l (sym (rw q at (b ∙ reads-critical book word i d c h e o)))
+    resolves g z k l b =
+        pair-resolves cs a g (at cs i) z k l (sym (b ∙ reads-critical book word i d c h e (neg_ℤ z)))
 
     -- if nothing new, the line is passed
     pub unresolved :
-        (g : ℕ × Signs) (z o : ℤ) → broken (assigned a) g.1 ≡ true → holds z g.1 ≡ true → o ≡ neg_ℤ z → true ≡ critical (full word) o (signs c)
+        (g : ℕ × Signs) (z : ℤ) → broken (assigned a) g.1 ≡ true → holds z g.1 ≡ true → true ≡ critical (full word) (neg_ℤ z) (signs c)
         → None ≡ first (resolved_from cs g (at cs i)) → whole ≡ flat_map (by_pair cs a g z) (left cs i) ++ after → whole ≡ flat_map (by_pair cs a g z) (left cs (i + 1)) ++ after
-    unresolved g z o k l q b n m =
+    unresolved g z k l b n m =
         m ∙ ap (λ xs. xs ++ after)
         (candidates_more (by_pair cs a g z) cs i (inside i h)
-        ∙ ap (λ xs. xs ++ flat_map (by_pair cs a g z) (left cs (i + 1))) (resolves g z o k l q b ∙ none-empty (resolved_from cs g (at cs i)) (sym n)))
+        ∙ ap (λ xs. xs ++ flat_map (by_pair cs a g z) (left cs (i + 1))) (resolves g z k l b ∙ none-empty (resolved_from cs g (at cs i)) (sym n)))
 
     -- if a new line, it is the first of all
     pub found :
-        (g : ℕ × Signs) (z o : ℤ) (x : Candidate) → broken (assigned a) g.1 ≡ true → holds z g.1 ≡ true → o ≡ neg_ℤ z → true ≡ critical (full word) o (signs c)
+        (g : ℕ × Signs) (z : ℤ) (x : Candidate) → broken (assigned a) g.1 ≡ true → holds z g.1 ≡ true → true ≡ critical (full word) (neg_ℤ z) (signs c)
         → Some x ≡ first (resolved_from cs g (at cs i)) → whole ≡ flat_map (by_pair cs a g z) (left cs i) ++ after → first whole ≡ Some x
-    found g z o x k l q b n m =
-        first_found (by_pair cs a g z) cs i whole after x (inside i h) m (ap first (resolves g z o k l q b) ∙ sym n)
+    found g z x k l b n m =
+        first_found (by_pair cs a g z) cs i whole after x (inside i h) m (ap first (resolves g z k l b) ∙ sym n)
 
   -- the lines are gone through for the next literal
   pub begun :

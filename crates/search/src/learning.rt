@@ -1,17 +1,33 @@
 // Learning: the second of the five steps.
-ghost use Rattle.std.specs.Prelude.{◌≡◌, option_map, IfSome};
+ghost use Rattle.std.specs.Prelude.{◌≡◌, neg_ℤ, option_map, IfSome};
 ghost use Rattle.words.specs.Bits.{first};
-ghost use Rattle.clauses.specs.Values.{truths};
+ghost use Rattle.clauses.specs.Clauses.{critical};
+ghost use Rattle.clauses.specs.Values.{full, truths};
+ghost use Rattle.clauses.specs.Words.{signs};
 ghost use Rattle.lines.specs.Lines.{candidate_of};
 ghost use Rattle.steps.specs.Writing.{learnt};
 ghost use Rattle.weighing.specs.Books.{standing};
 ghost use Rattle.search.specs.Laws.{KeepsTheFacts, IsBroken};
 
 use crate::resolving::new_resolvent;
+use clauses::clause::Clause;
+use clauses::literal::opposite;
 use lines::line::Line;
 use valuations::judging::{is_broken, is_critical};
 use valuations::valuation::Full;
 use weighing::book::Book;
+
+// Whether the clause is critical on the literal that says the contrary.
+#[tactic(auto, using(crate::proofs::Learnt::uncritical_past_all))]
+fn is_critical_against(assignment: &Full, clause: &Clause, literal: i32) -> bool
+    ensures value { result
+        ≡ critical (full assignment.now.word) (neg_ℤ literal) (signs clause.now) }
+{
+    match opposite(literal) {
+        Some(contrary) => is_critical(assignment, clause, contrary),
+        None => false,
+    }
+}
 
 // The line to learn: for each broken line g from the oldest on, for each of its
 // variables from the lowest on, each line h that is critical on the literal
@@ -31,7 +47,7 @@ pub fn learn(book: &Book<'_>, assignment: &Full) -> Option<Line>
             }
             for literal in broken.literals() {
                 for h in 0..book.lines.len() {
-                    if !is_critical(assignment, &book.lines[h].clause(), -literal) {
+                    if !is_critical_against(assignment, &book.lines[h].clause(), literal) {
                         continue;
                     }
                     if let Some(line) = new_resolvent(book, g, h) {

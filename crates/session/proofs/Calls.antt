@@ -4,7 +4,7 @@ use Rattle.std.specs.List.{list_all}
 use Rattle.std.proofs.lemmas.Bool.{ne_eqb, le-ltb}
 use Rattle.clauses.specs.Literals.{names}
 use Rattle.guides.specs.Ranks.{Rank}
-use Rattle.text.specs.Limits.{most_literals}
+use Rattle.limits.specs.Limits.{most_literals}
 use Rattle.text.specs.Reading.{reading}
 use Rattle.answers.specs.declared.load.LoadRefusal.{LoadRefusal}
 use Rattle.answers.specs.declared.run.Ran.{Ran}

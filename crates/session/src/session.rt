@@ -1,7 +1,7 @@
 // The session. Its calls are in session/calls.rt, session/adding.rt,
 // session/loading.rt, session/running.rt and session/telling.rt.
 ghost use Rattle.std.specs.Prelude.{◌≡◌, ◌≤◌, ◌<◌, ◌^◌, true, length};
-ghost use Rattle.guides.specs.declared.row.TheConstants.{MOST_LINES};
+ghost use Rattle.limits.specs.Limits.{most_lines};
 ghost use Rattle.words.specs.Bits.{width};
 ghost use Rattle.lines.specs.Lines.{keeps};
 ghost use Rattle.table.specs.Held.{held, places_of};
@@ -28,7 +28,7 @@ pub struct Session<'a> {
     ghost facts: { keeps n (held book) ≡ true },
     ghost wide: { n ≤ width },
     ghost inside: { assignment.word < 2 ^ n },
-    ghost few: { length (held book) ≤ MOST_LINES },
-    ghost room: { 0 < n → length (places_of book) ≤ MOST_LINES },
+    ghost few: { length (held book) ≤ most_lines },
+    ghost room: { 0 < n → length (places_of book) ≤ most_lines },
     ghost unopened: { n ≡ 0 → length (held book) ≡ 0 },
 }

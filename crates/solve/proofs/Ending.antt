@@ -1,6 +1,7 @@
 -- How the calls end: the open is refused, or the load, or the run answers.
 -- Assumes nothing.
 use Rattle.std.proofs.Common.{◌≡◌, ℕ, ◌+◌, ◌^◌, ◌<◌, ◌≤◌, ◌⊎◌, Bool, true, false, cond, not, ltb, leb, List, [], ◌∷◌, ◌++◌, length, take, ℤ, Some, None, Ok, Err, Option, Result, inl, inr, ⊎_elim, length-append, refl, sym, ap, ◌∙◌, subst, arith}
+use Rattle.limits.specs.Limits.{program_places, program_steps}
 use Rattle.std.proofs.lemmas.Bool.{cond_both, ltb-true, ltb-false, leb-true, and_parts, not-true, not-false}
 use Rattle.std.proofs.lemmas.List.{take_all}
 use Rattle.std.proofs.lemmas.Nat.{pow_pos}
@@ -84,7 +85,7 @@ module _ (text : List ℕ) (n : ℕ) where
   -- a history in which nothing is refused and the text is taken whole
   pub record Whole (r : Ran) (u : State) : Type 0 where
     pub log : Log
-    pub reached : Reached session_limits 1000 log u
+    pub reached : Reached session_limits program_places log u
     pub newest : newest_outcome log ≡ Some r.outcome
     pub same_n : (tally log).n ≡ n
     pub same_clauses : (tally log).clauses ≡ xss
@@ -94,30 +95,30 @@ module _ (text : List ℕ) (n : ℕ) where
 
   -- the text is at fault, or its clauses need more than 1,000 places
   abbrev pub Unloaded : LoadRefusal → Type 0
-  Unloaded f = ((g : ReadFault) × (fault_of (reading n text) ≡ Some g)) ⊎ ((number_of (load_refusal f.fault) ≡ 8) × (1000 < length xss))
+  Unloaded f = ((g : ReadFault) × (fault_of (reading n text) ≡ Some g)) ⊎ ((number_of (load_refusal f.fault) ≡ 8) × (program_places < length xss))
 
   -- what holds of each end holds of the end
   module _ (P : Result Told Fault → Type 0) (closed : not (one_to 64 n) ≡ true → P (Err (Session VariablesOutOfRange))) (unloaded : (f : LoadRefusal) → Unloaded f → P (Err (Load f.fault)))
       (whole : (r : Ran) (u : State) → Whole r u → P (Ok (told_of r.outcome u.assignment))) where
-    after_load : (s : State) → does session_limits 1000 unopened (opens n 0) ≡ (opened (Ok tt), s) → s.n ≡ n → length s.lines ≡ 0 → one_to 64 n ≡ true
-        → (x : Result ℕ LoadRefusal × State) → Took 1000 0 s (reading n text) x → does session_limits 1000 s (loads text) ≡ answering loaded x
-        → P (found (unless_refused (answering loaded x) (λ t. does session_limits 1000 t (runs longest_first 100000))))
+    after_load : (s : State) → does session_limits program_places unopened (opens n 0) ≡ (opened (Ok tt), s) → s.n ≡ n → length s.lines ≡ 0 → one_to 64 n ≡ true
+        → (x : Result ℕ LoadRefusal × State) → Took program_places 0 s (reading n text) x → does session_limits program_places s (loads text) ≡ answering loaded x
+        → P (found (unless_refused (answering loaded x) (λ t. does session_limits program_places t (runs longest_first program_steps))))
     after_load s o same none within (Err f, t) h e =
-        subst (λ (b : Bool). P (found (cond b (does session_limits 1000 t (runs longest_first 100000)) (loaded (Err f), t)))) (sym (load_some f.fault))
+        subst (λ (b : Bool). P (found (cond b (does session_limits program_places t (runs longest_first program_steps)) (loaded (Err f), t)))) (sym (load_some f.fault))
         (unloaded f (⊎_elim inl (λ x. inr (x.0, omega (arith, x.1))) h))
     after_load s o same none within (Ok k, t) h e =
         let before : Log = (loads text, loaded (Ok k)) ∷ (opens n 0, opened (Ok tt)) ∷ [] in
-        let at_t : Reached session_limits 1000 before t = (s, (unopened, refl, o), e) in
+        let at_t : Reached session_limits program_places before t = (s, (unopened, refl, o), e) in
         let n_is : (tally before).n ≡ n = appended_n _ (take k xss) in
-        let t_n = (reached_beside session_limits allowed 1000 before t at_t).same_n in
+        let t_n = (reached_beside session_limits allowed program_places before t at_t).same_n in
         let p = and_parts (ltb 0 n) (leb n 64) within in
         let some = ltb-true 0 n p.0 in
-        let done : Run = run longest_first 1000 100000 t in
+        let done : Run = run longest_first program_places program_steps t in
         let ran_so : Ran = record { outcome = done.outcome; steps = done.steps } in
-        cond_both (not (is_open t)) _ (answering ran (run_told done)) (λ d. does session_limits 1000 t (runs longest_first 100000) ≡ d → P (found d))
+        cond_both (not (is_open t)) _ (answering ran (run_told done)) (λ d. does session_limits program_places t (runs longest_first program_steps) ≡ d → P (found d))
         (λ shut _. let z = unopened_none t (not-true (is_open t) shut) in absurd (omega arith))
         (λ _ f. whole ran_so done.left (record {
-          log = (runs longest_first 100000, ran (Ok ran_so)) ∷ before;
+          log = (runs longest_first program_steps, ran (Ok ran_so)) ∷ before;
           reached = (t, at_t, f);
           newest = refl;
           same_n = n_is;
@@ -127,19 +128,19 @@ module _ (text : List ℕ) (n : ℕ) where
           sound = h.0;
         })) refl
 
-    after_open : (s : State) → does session_limits 1000 unopened (opens n 0) ≡ (opened (Ok tt), s) → s.n ≡ n → length s.lines ≡ 0 → one_to 64 n ≡ true
-        → P (found (unless_refused (does session_limits 1000 s (loads text)) (λ t. does session_limits 1000 t (runs longest_first 100000))))
+    after_open : (s : State) → does session_limits program_places unopened (opens n 0) ≡ (opened (Ok tt), s) → s.n ≡ n → length s.lines ≡ 0 → one_to 64 n ≡ true
+        → P (found (unless_refused (does session_limits program_places s (loads text)) (λ t. does session_limits program_places t (runs longest_first program_steps))))
     after_open s o same none within =
         let some = ltb-true 0 n (and_parts (ltb 0 n) (leb n 64) within).0 in
-        cond_both (not (is_open s)) _ (answering loaded (take_up 1000 0 s (reading s.n text)))
-        (λ d. does session_limits 1000 s (loads text) ≡ d → P (found (unless_refused d (λ t. does session_limits 1000 t (runs longest_first 100000)))))
+        cond_both (not (is_open s)) _ (answering loaded (take_up program_places 0 s (reading s.n text)))
+        (λ d. does session_limits program_places s (loads text) ≡ d → P (found (unless_refused d (λ t. does session_limits program_places t (runs longest_first program_steps)))))
         (λ shut _. let z = unopened_none s (not-true (is_open s) shut) in absurd (omega arith))
-        (λ _ e. after_load s o same none within (take_up 1000 0 s (reading s.n text)) (subst (λ m. Took 1000 0 s (reading m text) (take_up 1000 0 s (reading s.n text))) same (took 1000 0 s (reading s.n text))) e) refl
+        (λ _ e. after_load s o same none within (take_up program_places 0 s (reading s.n text)) (subst (λ m. Took program_places 0 s (reading m text) (take_up program_places 0 s (reading s.n text))) same (took program_places 0 s (reading s.n text))) e) refl
 
     pub by_ending : P (found (called text n))
     by_ending =
         let Q : Answer × State → Type 0 =
-        λ d. does session_limits 1000 unopened (opens n 0) ≡ d → P (found (unless_refused d (λ s. unless_refused (does session_limits 1000 s (loads text)) (λ t. does session_limits 1000 t (runs longest_first 100000))))) in
+        λ d. does session_limits program_places unopened (opens n 0) ≡ d → P (found (unless_refused d (λ s. unless_refused (does session_limits program_places s (loads text)) (λ t. does session_limits program_places t (runs longest_first program_steps))))) in
         cond_both (not (one_to 64 n)) _ _ Q (λ out _. closed out)
         (λ within. cond_both (too_wide n 0) _ _ Q (λ high _. let z = leb-true (2 ^ n) 0 high in let y = pow_pos n in absurd (omega arith))
         (λ _ e. after_open _ e refl refl (not-false (one_to 64 n) within))) refl

@@ -1,5 +1,6 @@
 -- The calls, one after another. Assumes nothing.
 use Rattle.std.proofs.Common.{◌≡◌, ℕ, ◌≤◌, false, eqb, ltb, List, length, Ok, Err, refl, ap, ◌∙◌}
+use Rattle.limits.specs.Limits.{program_bytes, program_places, program_steps}
 use Rattle.std.proofs.lemmas.Bool.{cond-false, le-ltb}
 use Rattle.text.specs.declared.faults.TextFault.TheVariants.{TooLong, NotProblemLine, TooLarge, NotNumber, AboveVariables, EndsInsideClause, WordAfterClauses, ClausesMissing}
 use Rattle.text.specs.declared.faults.BookFault.TheVariants.{TooManyLiterals, NoFreePlace}
@@ -12,9 +13,9 @@ use Rattle.answers.specs.declared.run.Ran.{Ran}
 use Rattle.answers.specs.Refusals.{load_refusal}
 use Rattle.histories.specs.States.{State, session_limits, unopened}
 use Rattle.histories.specs.Calls.{opens, loads, runs, opened, loaded, ran, does}
-use Rattle.solve.specs.declared.fault.Fault.TheVariants.{Head}
+use Rattle.solve.specs.declared.fault.Fault.TheVariants.{TooMuchInput}
 use Rattle.pages.specs.Reports.{told_of}
-use Rattle.solve.specs.Answers.{most_input, unless_refused, called, found, headed, solved}
+use Rattle.solve.specs.Answers.{unless_refused, called, found, headed, solved}
 
 -- no refusal of a load has the number 0
 pub load_some : (f : LoadFault) → eqb (text.number_of (load_refusal f)) 0 ≡ false
@@ -31,13 +32,13 @@ load_some (load.Book (TooManyLiterals p)) = refl
 load_some (load.Book (NoFreePlace p)) = refl
 
 -- the calls that nothing refuses
-pub ran_so : (text : List ℕ) (n : ℕ) (s t u : State) (done : Unit {0}) (k : ℕ) (r : Ran) → does session_limits 1000 unopened (opens n 0) ≡ (opened (Ok done), s)
-    → does session_limits 1000 s (loads text) ≡ (loaded (Ok k), t) → does session_limits 1000 t (runs longest_first 100000) ≡ (ran (Ok r), u) → found (called text n) ≡ Ok (told_of r.outcome u.assignment)
+pub ran_so : (text : List ℕ) (n : ℕ) (s t u : State) (done : Unit {0}) (k : ℕ) (r : Ran) → does session_limits program_places unopened (opens n 0) ≡ (opened (Ok done), s)
+    → does session_limits program_places s (loads text) ≡ (loaded (Ok k), t) → does session_limits program_places t (runs longest_first program_steps) ≡ (ran (Ok r), u) → found (called text n) ≡ Ok (told_of r.outcome u.assignment)
 ran_so text n s t u done k r at_open at_load at_run =
-    ap (λ d. found (unless_refused d (λ s'. unless_refused (does session_limits 1000 s' (loads text)) (λ t'. does session_limits 1000 t' (runs longest_first 100000))))) at_open
-    ∙ ap (λ d. found (unless_refused d (λ t'. does session_limits 1000 t' (runs longest_first 100000)))) at_load ∙ ap found at_run
+    ap (λ d. found (unless_refused d (λ s'. unless_refused (does session_limits program_places s' (loads text)) (λ t'. does session_limits program_places t' (runs longest_first program_steps))))) at_open
+    ∙ ap (λ d. found (unless_refused d (λ t'. does session_limits program_places t' (runs longest_first program_steps)))) at_load ∙ ap found at_run
 
 -- a text of so few bytes, with such a head
-pub solved_so : (text : List ℕ) (n m : ℕ) → length text ≤ most_input → head_of text ≡ Ok (n, m) → solved text ≡ found (called text n)
+pub solved_so : (text : List ℕ) (n m : ℕ) → length text ≤ program_bytes → head_of text ≡ Ok (n, m) → solved text ≡ found (called text n)
 solved_so text n m few e =
-    cond-false (ltb most_input (length text)) (Err (Head TooLong)) (headed text (head_of text)) (le-ltb most_input (length text) few) ∙ ap (headed text) e
+    cond-false (ltb program_bytes (length text)) (Err TooMuchInput) (headed text (head_of text)) (le-ltb program_bytes (length text) few) ∙ ap (headed text) e

@@ -1,15 +1,15 @@
 -- What a text's words say, and what its head and its reading are. Assumes
 -- nothing.
 use Rattle.std.proofs.Common.{◌≡◌, ℕ, ◌<◌, ◌≤◌, List, length, ℤ, None, Ok, Err, Result, refl, subst, arith}
-use Rattle.std.proofs.lemmas.Bool.{le-ltb}
 use Rattle.tokens.specs.Words.{pieces, words_of}
 use Rattle.text.specs.declared.faults.TextFault.{TextFault}
-use Rattle.text.specs.Limits.{most_bytes, most_variables}
+use Rattle.limits.specs.Limits.{most_variables, program_bytes}
 use Rattle.text.specs.Problem.{head_of}
 use Rattle.text.specs.Reading.{reading, clauses_of, fault_of}
 use Rattle.text_laws.specs.Writing.{Writable, saying}
-use Rattle.text_laws.proofs.Sound.{sound_texts, line-sizes}
-use Rattle.solve.specs.Answers.{most_input}
+use Rattle.text_laws.specs.Laws.{Headed}
+use Rattle.text_laws.proofs.Headed.{head_tells}
+use Rattle.text_laws.proofs.Sound.{sound_texts}
 use Rattle.solve.specs.Promises.{Saying}
 
 -- a head of n variables
@@ -17,10 +17,11 @@ abbrev pub HasVariables : ℕ → Result (ℕ × ℕ) TextFault → Type 0
 HasVariables n (Err f) = ⊥
 HasVariables n (Ok h) = n ≡ h.0
 
-module _ (text : List ℕ) (short : length text ≤ most_input) where
+module _ (text : List ℕ) (short : length text ≤ program_bytes) where
   words_head : (n : ℕ) (cs : List (List ℤ)) → n ≤ most_variables → Writable n cs → words_of (pieces text) ≡ saying n cs → HasVariables n (head_of text)
   words_head n cs l a e =
-      rw (le-ltb most_bytes (length text) (omega arith), line-sizes most_variables (length text) n (length cs) (pieces text) _ a.0 l a.1 e)
+      let line : Headed text n (length cs) = record { short = omega arith; narrow = l; few = a.1; rest = _; words = e } in
+      rw (((head_tells text).0 n (length cs)).1 line) refl
 
   -- whose words say clauses over n variables has a head of n variables
   pub said_head : (n : ℕ) (cs : List (List ℤ)) → Saying text n cs → HasVariables n (head_of text)

@@ -1,5 +1,6 @@
 -- What the program answers is so of the text. Assumes nothing.
 use Rattle.std.proofs.Common.{◌≡◌, ℕ, ◌≤◌, true, ltb, leb, List, length, ℤ, Some, None, Ok, Err, Result, ⊎_elim, refl, sym, ap, ◌∙◌, subst, arith}
+use Rattle.limits.specs.Limits.{program_bytes, program_places}
 use Rattle.std.proofs.lemmas.Bool.{cond_both, ltb-true, ltb-false, lt-ltb, le-leb, and_from, not-true, false≢true}
 use Rattle.text.specs.declared.faults.ReadFault.{ReadFault}
 use Rattle.text.specs.declared.faults.TextFault.{TextFault}
@@ -13,7 +14,7 @@ use Rattle.histories.specs.States.{State, session_limits}
 use Rattle.histories.specs.Guarantees.{meets_all}
 use Rattle.histories.proofs.Histories.{every_history, allowed}
 use Rattle.pages.specs.Reports.{told_of}
-use Rattle.solve.specs.Answers.{most_input, headed, solved}
+use Rattle.solve.specs.Answers.{headed, solved}
 use Rattle.solve.specs.Promises.{Saying, Judges, Solves, SaysSo}
 use Rattle.solve.proofs.Ending.{xss, Whole, by_ending}
 use Rattle.solve.proofs.Saying.{HasVariables, said_head, said_reading, reading_said}
@@ -23,16 +24,16 @@ use Rattle.solve.proofs.Saying.{HasVariables, said_head, said_reading, reading_s
 module _ (text : List ℕ) (n : ℕ) (r : Ran) (u : State) (w : Whole text n r u) where
   judges : (o : Outcome) → r.outcome ≡ o → Judges n (xss text n) (told_of o u.assignment)
   judges Met e =
-      let b = (every_history session_limits allowed 1000 w.log u w.reached).bears (w.newest ∙ ap Some e) in
+      let b = (every_history session_limits allowed program_places w.log u w.reached).bears (w.newest ∙ ap Some e) in
       (b.0 ∙ w.same_n, ap (meets_all u.assignment) (sym w.same_clauses) ∙ b.1)
   judges NoneMeets e = λ a m.
-      let tells = (every_history session_limits allowed 1000 w.log u w.reached).tells NoneMeets (w.newest ∙ ap Some e, refl) in
+      let tells = (every_history session_limits allowed program_places w.log u w.reached).tells NoneMeets (w.newest ∙ ap Some e, refl) in
       let met = tells.1 (a, m.0 ∙ sym w.same_n, ap (meets_all a) w.same_clauses ∙ m.1) in
       absurd (cc met)
   judges Spent e = tt
   judges Full e = tt
 
-module _ (text : List ℕ) (short : length text ≤ most_input) where
+module _ (text : List ℕ) (short : length text ≤ program_bytes) where
   says : (n m : ℕ) (r : Ran) (u : State) → head_of text ≡ Ok (n, m) → Whole text n r u → Saying text n (xss text n)
   says n m r u head w = reading_said text short n m head w.some w.few w.sound
 
@@ -68,9 +69,9 @@ module _ (text : List ℕ) (short : length text ≤ most_input) where
 
 pub solves : (text : List ℕ) → Solves text (solved text)
 solves text =
-    cond_both (ltb most_input (length text)) _ _ (Solves text) (λ _. tt) (λ few. headed_solves text (ltb-false _ _ few) (head_of text) refl)
+    cond_both (ltb program_bytes (length text)) _ _ (Solves text) (λ _. tt) (λ few. headed_solves text (ltb-false _ _ few) (head_of text) refl)
 
 pub says_so : (text : List ℕ) → SaysSo text (solved text)
 says_so text =
-    cond_both (ltb most_input (length text)) _ _ (SaysSo text)
+    cond_both (ltb program_bytes (length text)) _ _ (SaysSo text)
     (λ long short. absurd (omega (arith, ltb-true _ _ long))) (λ few. headed_says text (ltb-false _ _ few) (head_of text) refl)

@@ -1,7 +1,8 @@
 -- What the program answers to a text, and what it prints. Assumes nothing.
 use Rattle.std.specs.Prelude.{ℕ, cond, List, length, Ok, Err, Result, ◌==◌, nat_lt}
+use Rattle.limits.specs.Limits.{program_bytes, program_places, program_steps}
 use Rattle.text.specs.declared.faults.TextFault.{TextFault}
-use Rattle.text.specs.declared.faults.TextFault.TheVariants.{TooLong}
+use Rattle.text.specs.declared.faults.Refuser.TheVariants as by
 use Rattle.text.specs.Problem.{head_of}
 use Rattle.text.specs.Refusals.{text_refusal, number_of, place_of}
 use Rattle.text.specs.Refusals as text
@@ -16,24 +17,20 @@ use Rattle.histories.specs.States.{State, session_limits, unopened}
 use Rattle.histories.specs.Calls.{opens, loads, runs, Answer, opened, added, loaded, restarted, ran, does}
 use Rattle.histories.specs.Logs.{refusal_number}
 use Rattle.solve.specs.declared.fault.Fault.{Fault}
-use Rattle.solve.specs.declared.fault.Fault.TheVariants.{Head, Session, Load}
-
--- bytes that the program takes
-abbrev pub most_input : ℕ
-most_input = 65536
+use Rattle.solve.specs.declared.fault.Fault.TheVariants.{TooMuchInput, Head, Session, Load}
 
 -- ---- the calls
 
 abbrev pub unless_refused : Answer × State → (State → Answer × State) → Answer × State
 unless_refused d go_on = cond (refusal_number d.0 == 0) (go_on d.1) d
 
--- a session over a book of 1,000 places is opened, loaded and run, until a call
--- is refused
+-- a session over a book of as many places as the program has is opened, loaded and
+-- run, until a call is refused
 abbrev pub called : List ℕ → ℕ → Answer × State
 called text n =
-    unless_refused (does session_limits 1000 unopened (opens n 0))
-    (λ s. unless_refused (does session_limits 1000 s (loads text))
-    (λ t. does session_limits 1000 t (runs longest_first 100000)))
+    unless_refused (does session_limits program_places unopened (opens n 0))
+    (λ s. unless_refused (does session_limits program_places s (loads text))
+    (λ t. does session_limits program_places t (runs longest_first program_steps)))
 
 -- ---- what they come to
 
@@ -56,7 +53,7 @@ headed text (Ok h) = found (called text h.0)
 -- what the program answers
 abbrev pub solved : List ℕ → Result Told Fault
 solved text =
-    cond (nat_lt most_input (length text)) (Err (Head TooLong)) (headed text (head_of text))
+    cond (nat_lt program_bytes (length text)) (Err TooMuchInput) (headed text (head_of text))
 
 -- the same of what the code's calls come to
 abbrev pub told_in : Result Outcome Fault → State → Result Told Fault
@@ -67,6 +64,7 @@ told_in (Err f) s = Err f
 
 -- every promise takes a refusal's number, place and refuser from here
 abbrev pub fault_refusal : Fault → text.Refusal
+fault_refusal TooMuchInput = text.refusal by.Session 9 0
 fault_refusal (Head f) = text_refusal f
 fault_refusal (Session r) = call_refusal r
 fault_refusal (Load f) = load_refusal f

@@ -2,7 +2,7 @@
 use Rattle.std.specs.Prelude.{◌≡◌, ℕ, ◌<◌, ◌≤◌, Bool, true, List, [], ◌∷◌, ◌++◌, length, ℤ, Ok, Err, codes, Option, Result}
 use Rattle.std.specs.Io.KnownBytes.{Appends}
 use Rattle.tokens.specs.Words.{pieces, words_of}
-use Rattle.text.specs.Limits.{most_variables}
+use Rattle.limits.specs.Limits.{most_variables, program_bytes, program_places}
 use Rattle.text.specs.Refusals.{number_of}
 use Rattle.text_laws.specs.Writing.{Writable, saying}
 use Rattle.histories.specs.Guarantees.{meets_all}
@@ -11,7 +11,7 @@ use Rattle.solve.specs.declared.streams.Failure.{Failure}
 use Rattle.solve.specs.declared.streams.Failure.TheVariants.{Unread, Unwritten}
 use Rattle.writing.specs.Items.{bytes}
 use Rattle.pages.specs.Reports.{Told, satisfied, refuted, undecided, literal_line}
-use Rattle.solve.specs.Answers.{most_input, fault_refusal}
+use Rattle.solve.specs.Answers.{fault_refusal}
 
 -- The text's words outside comments are p, cnf, n, m and those of the m clauses
 -- cs, over 1 to 64 variables.
@@ -41,10 +41,10 @@ Solves text (Err f) = Unit {0}
 -- clauses: these may find no place in the book, and then that is the refusal.
 abbrev pub SaysSo : List ℕ → Result Told Fault → Type 0
 SaysSo text (Ok t) =
-    (length text ≤ most_input) × ((n : ℕ) × (cs : List (List ℤ)) × Saying text n cs)
+    (length text ≤ program_bytes) × ((n : ℕ) × (cs : List (List ℤ)) × Saying text n cs)
 SaysSo text (Err f) =
-    length text ≤ most_input → (n : ℕ) (cs : List (List ℤ)) → Saying text n cs
-    → (number_of (fault_refusal f) ≡ 8) × (1000 < length cs)
+    length text ≤ program_bytes → (n : ℕ) (cs : List (List ℤ)) → Saying text n cs
+    → (number_of (fault_refusal f) ≡ 8) × (program_places < length cs)
 
 -- ---- the bytes
 

@@ -3,11 +3,13 @@ ghost use Rattle.solve.specs.Answers.{fault_refusal};
 
 use answers::load::{LoadFault, LoadRefusal};
 use answers::refusal::Refusal;
-use text::faults::TextFault;
 use text::faults::telling::Telling;
+use text::faults::{Refuser, TextFault, Told};
 
 #[derive(Clone, Copy, PartialEq, Eq, Debug)]
 pub enum Fault {
+    // The program's own: more bytes than it takes.
+    TooMuchInput,
     // Before a session is opened.
     Head(TextFault),
     // By the session.
@@ -52,19 +54,16 @@ impl From<LoadRefusal> for Fault {
 impl Telling for Fault {
     ghost refusal = { fault_refusal };
 
-    fn number(&self) -> u8 {
+    fn told(&self) -> Told {
         match self {
-            Fault::Head(fault) => fault.number(),
-            Fault::Session(refusal) => refusal.number(),
-            Fault::Load(fault) => fault.number(),
-        }
-    }
-
-    fn place(&self) -> usize {
-        match self {
-            Fault::Head(fault) => fault.place(),
-            Fault::Session(refusal) => refusal.place(),
-            Fault::Load(fault) => fault.place(),
+            Fault::TooMuchInput => Told {
+                refuser: Refuser::Session,
+                number: 9,
+                place: 0,
+            },
+            Fault::Head(fault) => fault.told(),
+            Fault::Session(refusal) => refusal.told(),
+            Fault::Load(fault) => fault.told(),
         }
     }
 }

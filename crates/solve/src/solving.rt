@@ -1,5 +1,6 @@
 // Solving a text: a session over a book of its own, opened, loaded and run.
 ghost use Rattle.std.specs.Prelude.{◌≡◌, Ok, length, take};
+ghost use Rattle.limits.specs.Limits.{program_places};
 ghost use Rattle.writing.specs.Pages.{filled};
 ghost use Rattle.histories.specs.States.{unopened};
 ghost use Rattle.session.specs.Sessions.{state, places as places_in};
@@ -11,35 +12,26 @@ use answers::report::Report;
 use answers::run::Outcome;
 use clauses::clause::Clause;
 use guides::longest::LongestFirst;
+use limits::{PROGRAM_BYTES, PROGRAM_PLACES, PROGRAM_STEPS};
 use lines::line::Line;
 use pages::report::MOST_REPORT;
 use session::session::Session;
-use text::faults::TextFault;
 use text::faults::telling::Telling;
 use text::problem::line::head;
-
-// Bytes that the program takes.
-pub const MOST_INPUT: usize = 65_536;
-
-// Places of its book.
-pub const PLACES: usize = 1_000;
-
-// Steps of its run.
-pub const BUDGET: u32 = 100_000;
 
 // The calls: how the run ends, or why one of them is refused.
 fn play(text: &[u8], session: &mut Session<'_>) -> Result<Outcome, Fault>
     requires unopened { state session.old ≡ unopened }
-    requires places { places_in session.old ≡ 1000 }
+    requires places { places_in session.old ≡ program_places }
     ensures value { told_in result (state session.new) ≡ solved text.now }
 {
-    if text.len() > MOST_INPUT {
-        return Err(TextFault::TooLong.into());
+    if text.len() > PROGRAM_BYTES {
+        return Err(Fault::TooMuchInput);
     }
     let (variables, _) = head(text)?;
     session.open(variables, 0)?;
     session.load(text)?;
-    let ran = session.run(&LongestFirst, BUDGET)?;
+    let ran = session.run(&LongestFirst, PROGRAM_STEPS)?;
     Ok(ran.outcome)
 }
 
@@ -65,7 +57,7 @@ pub fn answer(text: &[u8], buffer: &mut [u8; MOST_REPORT]) -> usize
     ensures said { SaysSo text.now (solved text.now) }
     ensures tells { Tells text.now (take result buffer.new) }
 {
-    let mut places = [Line::given(Clause { pos: 0, neg: 0 }); PLACES];
+    let mut places = [Line::given(Clause { pos: 0, neg: 0 }); PROGRAM_PLACES];
     let mut session = Session::new(&mut places);
     let played = play(text, &mut session);
     session.report(report(&played), buffer).unwrap_or(0)

@@ -1,10 +1,12 @@
 // From the bytes of a reader to those of a writer.
-ghost use Rattle.std.specs.Prelude.{◌≡◌, take, IfSome, IfOk, IfErr, OnOk};
+ghost use Rattle.limits.specs.Limits.{program_bytes};
+ghost use Rattle.std.specs.Prelude.{◌≡◌, suc, take, IfSome, IfOk, IfErr, OnOk};
 ghost use Rattle.std.specs.Io.KnownBytes.{Appends};
 ghost use Rattle.solve.specs.Answers.{output};
 ghost use Rattle.solve.specs.Promises.{Unanswered};
 
-use crate::solving::{MOST_INPUT, answer};
+use crate::solving::answer;
+use limits::PROGRAM_BYTES;
 use pages::report::MOST_REPORT;
 use std::alloc::Global;
 use std::io;
@@ -24,10 +26,12 @@ pub enum Failure {
 // exact: 65,536 fits.
 fn read_text<R: Read + Drop>(alloc: Global, reader: R) -> io::Result<Vec<u8>>
     ensures text { IfOk result (λ text. IfSome (R.remaining reader)
-        (λ input. text.items ≡ take 65537 input)) }
+        (λ input. text.items ≡ take (suc program_bytes) input)) }
 {
     let mut text = Vec::new(alloc);
-    reader.take(MOST_INPUT as u64 + 1).read_to_end(&mut text)?;
+    reader
+        .take(PROGRAM_BYTES as u64 + 1)
+        .read_to_end(&mut text)?;
     Ok(text)
 }
 

@@ -7,6 +7,7 @@ use Rattle.std.proofs.lemmas.List.Elements.{All-nil, All-cons, All-head, All-tai
 use Rattle.std.proofs.lemmas.List.FromFn.{length-enumerate_from, get_or-enumerate_from}
 use Rattle.std.proofs.lemmas.List.Sums.{AllPass-from_list_all}
 use Rattle.std.proofs.lemmas.Bool.{not-true}
+use Rattle.std.proofs.lemmas.Bool.Decides.{nat_tests}
 use Rattle.words.specs.Bits.{keep, first}
 use Rattle.clauses.specs.Values.{assigned}
 use Rattle.clauses.specs.Clauses.{Signs, holds, literals, broken, critical, has, clashes, resolvent, bar}
@@ -86,7 +87,7 @@ barred_each Q cs a each =
     All-flat_map (Passing cs is_broken) Q _ (broken_lines cs a) (passing_each cs is_broken) (λ g x. fresh_each Q cs _ (each g x.0 x.1))
 
 pub swept_each : (Q : Candidate → Type 0) (cs : List Signs)
-    → ((g h : ℕ × Signs) (v : ℕ) → Numbered cs g → Numbered cs h → clashes g.1 h.1 ≡ v ∷ [] → has (resolvent v g.1 h.1) cs ≡ false → Q (resolved v g.0 h.0 (resolvent v g.1 h.1)))
+    → ((g h : ℕ × Signs) (v : ℕ) → Numbered cs g → Numbered cs h → g.0 < h.0 → clashes g.1 h.1 ≡ v ∷ [] → has (resolvent v g.1 h.1) cs ≡ false → Q (resolved v g.0 h.0 (resolvent v g.1 h.1)))
     → All Q (swept cs)
 unfolding swept
 swept_each Q cs each =
@@ -94,4 +95,4 @@ swept_each Q cs each =
     All-flat_map (Numbered cs) Q _ (numbered cs) (numbered_each cs)
     (λ g x. All-flat_map (Passing cs (is_younger g)) Q _ (younger cs g.0) (passing_each cs (is_younger g))
     (λ h y. All-flat_map (λ l. All Q (fresh cs l)) Q (fresh cs) _
-    (All-in_one (λ l. All Q (fresh cs l)) (clashes g.1 h.1) _ (λ v one. fresh_each Q cs _ (each g h v x y.0 one))) (λ l z. z)))
+    (All-in_one (λ l. All Q (fresh cs l)) (clashes g.1 h.1) _ (λ v one. fresh_each Q cs _ (each g h v x y.0 (grind (arith, nat_tests)) one))) (λ l z. z)))

@@ -11,7 +11,7 @@ use Rattle.clauses.specs.declared.value.Value.{Value}
 use Rattle.clauses.specs.declared.value.Value.TheVariants.{True, False, Unset}
 use Rattle.clauses.specs.Values.{Values, assigned}
 use Rattle.clauses.specs.Clauses.{sign, Signs, false_at, literals_from, size, broken, within}
-use Rattle.guides.specs.declared.row.TheConstants.{LENGTHS}
+use Rattle.limits.specs.Limits.{lengths}
 use Rattle.guides.specs.Rows.{count}
 use Rattle.steps.specs.Rows.{broken_of_length, row}
 use Rattle.steps.specs.Laws.{OneMoreAddsOne, ARowCountsTheBroken}
@@ -42,14 +42,14 @@ broken-length (suc n) m k (sign false false ∷ c) w h =
 
 -- ---- entries
 
-pub length-row : (cs : List Signs) (a : List Bool) → length (row cs a) ≡ LENGTHS
+pub length-row : (cs : List Signs) (a : List Bool) → length (row cs a) ≡ lengths
 unfolding row
-length-row cs a = length-map-range_with_len (λ k. count_by (broken_of_length (assigned a) k) cs) 0 LENGTHS
+length-row cs a = length-map-range_with_len (λ k. count_by (broken_of_length (assigned a) k) cs) 0 lengths
 
 -- entry k is the number of broken clauses of length k
-pub count-row : (cs : List Signs) (a : List Bool) (k : ℕ) → k < LENGTHS → count k (row cs a) ≡ count_by (broken_of_length (assigned a) k) cs
+pub count-row : (cs : List Signs) (a : List Bool) (k : ℕ) → k < lengths → count k (row cs a) ≡ count_by (broken_of_length (assigned a) k) cs
 unfolding row
-count-row cs a k h = get_or-map-range_with_len (λ j. count_by (broken_of_length (assigned a) j) cs) 0 LENGTHS k k 0 h (omega arith)
+count-row cs a k h = get_or-map-range_with_len (λ j. count_by (broken_of_length (assigned a) j) cs) 0 lengths k k 0 h (omega arith)
 
 count_by_among : (p : Signs → Bool) (c : Signs) (cs ds : List Signs) → count_by p (cs ++ (c ∷ ds)) ≡ count_by p (cs ++ ds) + cond (p c) 1 0
 count_by_among p c cs ds =
@@ -107,27 +107,27 @@ times_once s a (suc n) h k = times-suc s a n ∙ go (eqb s a) refl (λ l. times_
     go false e f = let r = f (grind (arith, nat_tests)) in omega arith
 
 -- a clause is counted once if it is broken
-once_if_broken : (m : Values) (c : Signs) → within width c ≡ true → count_by (λ k. broken_of_length m k c) (range_with_len 0 LENGTHS) ≡ cond (broken m c) 1 0
+once_if_broken : (m : Values) (c : Signs) → within width c ≡ true → count_by (λ k. broken_of_length m k c) (range_with_len 0 lengths) ≡ cond (broken m c) 1 0
 once_if_broken m c w = go (broken m c) refl
   where
-    go : (b : Bool) → broken m c ≡ b → count_by (λ k. b && eqb (size c) k) (range_with_len 0 LENGTHS) ≡ cond b 1 0
-    go true e = let short = broken-length width m 0 c w e in times_once (size c) 0 LENGTHS (omega arith) (omega arith)
-    go false e = zeros (range_with_len 0 LENGTHS)
+    go : (b : Bool) → broken m c ≡ b → count_by (λ k. b && eqb (size c) k) (range_with_len 0 lengths) ≡ cond b 1 0
+    go true e = let short = broken-length width m 0 c w e in times_once (size c) 0 lengths (omega arith) (omega arith)
+    go false e = zeros (range_with_len 0 lengths)
 
 sum-row : (cs : List Signs) (a : List Bool) → list_all (within width) cs ≡ true → sum (row cs a) ≡ count_by (broken (assigned a)) cs
 unfolding row
 sum-row cs a w =
     let m = assigned a in
-    sum-map (λ k. count_by (broken_of_length m k) cs) (range_with_len 0 LENGTHS)
-    ∙ sums_swapped (λ k c. cond (broken_of_length m k c) 1 0) (range_with_len 0 LENGTHS) cs
-    ∙ sums_alike (within width) (λ c. count_by (λ k. broken_of_length m k c) (range_with_len 0 LENGTHS)) (λ c. cond (broken m c) 1 0) (once_if_broken m) cs w
+    sum-map (λ k. count_by (broken_of_length m k) cs) (range_with_len 0 lengths)
+    ∙ sums_swapped (λ k c. cond (broken_of_length m k c) 1 0) (range_with_len 0 lengths) cs
+    ∙ sums_alike (within width) (λ c. count_by (λ k. broken_of_length m k c) (range_with_len 0 lengths)) (λ c. cond (broken m c) 1 0) (once_if_broken m) cs w
 
 pub row_counts : ARowCountsTheBroken
 row_counts cs a = (length-row cs a, sum-row cs a)
 
 -- ---- one more clause of a list that is walked through
 
-pub row_none : (a : List Bool) → row [] a ≡ replicate LENGTHS 0
+pub row_none : (a : List Bool) → row [] a ≡ replicate lengths 0
 unfolding row
 row_none a = refl
 
@@ -162,7 +162,7 @@ row_more cs a i d h =
     let c = get_or cs i d in
     let b = broken (assigned a) c in
     let before = row (take i cs) a in
-    sym (fill_by_all (λ k. count_by (broken_of_length (assigned a) k) (take (i + 1) cs)) (raised_if b (size c) before) LENGTHS 0
+    sym (fill_by_all (λ k. count_by (broken_of_length (assigned a) k) (take (i + 1) cs)) (raised_if b (size c) before) lengths 0
     (length-raised_if b (size c) before ∙ length-row (take i cs) a)
     (λ k l. raised_if-at b (size c) before k (rw (length-row (take i cs) a) l)
     ∙ ap (λ n. n + cond (b && eqb (size c) k) 1 0) (count-row (take i cs) a k l)
@@ -172,5 +172,5 @@ row_more cs a i d h =
 pub sum-row-le : (cs : List Signs) (a : List Bool) → list_all (within width) cs ≡ true → sum (row cs a) ≤ length cs
 sum-row-le cs a w = rw (sum-row cs a w) (count_by-le-length (broken (assigned a)) cs)
 
-pub count-row-le : (cs : List Signs) (a : List Bool) (k : ℕ) → k < LENGTHS → count k (row cs a) ≤ length cs
+pub count-row-le : (cs : List Signs) (a : List Bool) (k : ℕ) → k < lengths → count k (row cs a) ≤ length cs
 count-row-le cs a k h = rw (count-row cs a k h) (count_by-le-length (broken_of_length (assigned a) k) cs)

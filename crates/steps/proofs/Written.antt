@@ -20,7 +20,7 @@ use Rattle.lines.proofs.Resolution.{sole_clash}
 use Rattle.clause_laws.proofs.Bar.{bar-broken}
 use Rattle.clause_laws.proofs.Books.{kept_facts, facts_kept}
 use Rattle.clause_laws.proofs.Counting.{same_self}
-use Rattle.steps.specs.Laws.{WhatIsWrittenKeepsTheFacts, LearntAndBarredAreBroken}
+use Rattle.steps.specs.Laws.{WhatIsWrittenKeepsTheFacts, LearntAndBarredAreBroken, FromTwoLines, SweptFromTwoLines}
 use Rattle.steps.specs.Writing.{learnt, barred, swept}
 use Rattle.steps.proofs.Candidates.{All-first, Numbered, learnt_each, barred_each, swept_each}
 use Rattle.steps.proofs.Clashing.{broken-clean, bar_breaks, critical-clashes, critical-broken, resolvent-within, resolvent-clean}
@@ -130,7 +130,7 @@ module _ (n : ℕ) (cs : List Signs) (one_way : list_all clean cs ≡ true) (bel
       (λ g h l x y b e c new. resolved_sound (nat_abs l) g h x y (critical-clashes (assigned a) l g.1 h.1 b e c) new)
 
   pub swept_sound : All (Sound n cs) (swept cs)
-  swept_sound = swept_each (Sound n cs) cs (λ g h v x y e new. resolved_sound v g h x y e new)
+  swept_sound = swept_each (Sound n cs) cs (λ g h v x y older e new. resolved_sound v g h x y e new)
 
 pub barred_sound : (cs : List Signs) (a : List Bool) → length a ≤ width → All (Sound (length a) cs) (barred cs a)
 barred_sound cs a few =
@@ -142,6 +142,11 @@ barred_sound cs a few =
       within_n = bar-within a few;
       following = passes_one (λ c. included c b) g.1 (line g.0 cs) x.0 ((bar-broken a few).3 g.1 e);
     })
+
+pub swept_from_two : SweptFromTwoLines
+swept_from_two cs =
+    swept_each (λ l. FromTwoLines cs l.origin) cs
+    (λ g h v x y older e new. (older, λ c d at_c at_d. let first : g.1 ≡ c = cc in let second : h.1 ≡ d = cc in rw (← first, ← second) e))
 
 pub written_keeps : WhatIsWrittenKeepsTheFacts
 written_keeps ls a k few i d b =

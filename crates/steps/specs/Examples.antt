@@ -1,5 +1,5 @@
 -- The worked examples, by computation. Assumes nothing.
-use Rattle.std.specs.Prelude.{◌≡◌, ℕ, zero, suc, ◌-◌, Bool, true, false, List, [], ◌∷◌, ◌++◌, sum, pos, negsuc}
+use Rattle.std.specs.Prelude.{◌≡◌, ℕ, zero, suc, ◌-◌, Bool, true, false, List, [], ◌∷◌, ◌++◌, length, sum, pos, negsuc}
 use Rattle.std.specs.List.{list_any}
 use Rattle.words.specs.Bits.{width, listed}
 use Rattle.clauses.specs.Values.{assigned}
@@ -172,22 +172,29 @@ some_lines = nothing ∷ one ∷ two ∷ one_two ∷ not_one ∷ bar 64 (assigne
 
 -- With all 64 variables false, (-1) alone is not broken. Over two variables
 -- the clause of all 64 isn't either.
-abbrev pub Rows : Type 0
-Rows =
-    (count 0 (row some_lines all_false) ≡ 1)
-    × (count 1 (row some_lines all_false) ≡ 2)
-    × (count 2 (row some_lines all_false) ≡ 1)
-    × (count 3 (row some_lines all_false) ≡ 0)
-    × (count 64 (row some_lines all_false) ≡ 1)
-    × (count 64 (row some_lines (false ∷ false ∷ [])) ≡ 0)
+pub record Rows : Type 0 where
+  pub entries : length (row some_lines all_false) ≡ 65
+  pub empty : count 0 (row some_lines all_false) ≡ 1
+  pub ones : count 1 (row some_lines all_false) ≡ 2
+  pub twos : count 2 (row some_lines all_false) ≡ 1
+  pub threes : count 3 (row some_lines all_false) ≡ 0
+  pub longest : count 64 (row some_lines all_false) ≡ 1
+  pub over_two : count 64 (row some_lines (false ∷ false ∷ [])) ≡ 0
+
+-- (1 -1)
+abbrev pub both_ways : Signs
+both_ways = set_of (pos 1 ∷ negsuc 0 ∷ [])
 
 -- (1 2) and (-1 -2) clash twice, and nothing is swept. With (1) and (-1) after
 -- them, lines 1 and 4 come before 2 and 3, and these before 3 and 4.
-abbrev pub Pairs : Type 0
-Pairs =
-    (clashes one_two not_one_not_two ≡ 1 ∷ 2 ∷ [])
-    × (swept (one_two ∷ not_one_not_two ∷ []) ≡ [])
-    × (swept (one_two ∷ not_one_not_two ∷ one ∷ not_one ∷ []) ≡ resolved 1 1 4 two ∷ resolved 1 2 3 not_two ∷ resolved 1 3 4 nothing ∷ [])
+-- A line that holds a variable both ways is not swept with itself.
+pub record Pairs : Type 0 where
+  pub clash_twice : clashes one_two not_one_not_two ≡ 1 ∷ 2 ∷ []
+  pub none : swept (one_two ∷ not_one_not_two ∷ []) ≡ []
+  pub alone : swept (both_ways ∷ []) ≡ []
+  pub order :
+      swept (one_two ∷ not_one_not_two ∷ one ∷ not_one ∷ [])
+      ≡ resolved 1 1 4 two ∷ resolved 1 2 3 not_two ∷ resolved 1 3 4 nothing ∷ []
 
 -- From (1 -2), (-1 -2), (-2), (1 2), with 1 false and 2 true: the first two
 -- would give (-2), which is line 3, so (1) is learnt first, from 1 and 4.

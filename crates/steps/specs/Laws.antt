@@ -4,13 +4,15 @@ use Rattle.std.specs.Prelude.{◌≡◌, ℕ, ◌+◌, ◌<◌, ◌≤◌, Bool,
 use Rattle.std.specs.List.{list_all, list_any}
 use Rattle.words.specs.Bits.{width, first}
 use Rattle.clauses.specs.Values.{assigned}
-use Rattle.clauses.specs.Clauses.{Signs, empty, clean, within, broken}
-use Rattle.lines.specs.Lines.{Candidate, clauses_in, keeps_facts}
+use Rattle.clauses.specs.Clauses.{Signs, empty, clean, within, broken, clashes}
+use Rattle.lines.specs.declared.line.Origin.{Origin}
+use Rattle.lines.specs.declared.line.Origin.TheVariants.{Given, Resolved, Widened}
+use Rattle.lines.specs.Lines.{Candidate, clauses_in, keeps_facts, line}
 use Rattle.lines.specs.ReadingOff.{closed, breaks, read_off}
-use Rattle.guides.specs.declared.row.TheConstants.{LENGTHS}
+use Rattle.limits.specs.Limits.{lengths}
 use Rattle.guides.specs.Rows.{count}
-use Rattle.guides.specs.Ranks.{Rank}
-use Rattle.steps.specs.Rows.{broken_of_length, row}
+use Rattle.guides.specs.Ranks.{Rank, fewest_broken}
+use Rattle.steps.specs.Rows.{broken_of_length, row, ranked}
 use Rattle.steps.specs.Flips.{flipped, flips, NoneBetter, Best}
 use Rattle.steps.specs.Writing.{learnt, barred, swept}
 use Rattle.steps.specs.Moves.{writable}
@@ -21,7 +23,7 @@ use Rattle.steps.specs.Moves.{writable}
 -- and else changes nothing.
 abbrev pub OneMoreAddsOne : Type 0
 OneMoreAddsOne =
-    (a : List Bool) (c : Signs) (cs ds : List Signs) (k : ℕ) → k < LENGTHS
+    (a : List Bool) (c : Signs) (cs ds : List Signs) (k : ℕ) → k < lengths
     → count k (row (cs ++ (c ∷ ds)) a) ≡ count k (row (cs ++ ds) a) + (if broken_of_length (assigned a) k c then 1 else 0)
 
 -- A row has 65 entries. No broken clause over at most 64 variables is longer,
@@ -29,8 +31,14 @@ OneMoreAddsOne =
 abbrev pub ARowCountsTheBroken : Type 0
 ARowCountsTheBroken =
     (cs : List Signs) (a : List Bool)
-    → (length (row cs a) ≡ LENGTHS)
+    → (length (row cs a) ≡ lengths)
     × (list_all (within width) cs ≡ true → sum (row cs a) ≡ count_by (broken (assigned a)) cs)
+
+-- So under fewest broken an assignment ranks as many as it breaks.
+abbrev pub FewestBrokenCountsTheBroken : Type 0
+FewestBrokenCountsTheBroken =
+    (cs : List Signs) (a : List Bool) → list_all (within width) cs ≡ true
+    → fewest_broken (ranked cs a) ≡ count_by (broken (assigned a)) cs
 
 -- ---- neighbours
 
@@ -62,6 +70,19 @@ abbrev pub LearntAndBarredAreBroken : Type 0
 LearntAndBarredAreBroken =
     (cs : List Signs) (a : List Bool)
     → All (λ l. broken (assigned a) l.clause ≡ true) (learnt cs a ++ barred cs a)
+
+-- The line is resolved from two lines, the older named first, that clash in just
+-- the variable that it names.
+abbrev pub FromTwoLines : List Signs → Origin → Type 0
+FromTwoLines cs Given = ⊥
+FromTwoLines cs (Widened i) = ⊥
+FromTwoLines cs (Resolved v i j) =
+    (i < j)
+    × ((c d : Signs) → line i cs ≡ c ∷ [] → line j cs ≡ d ∷ [] → clashes c d ≡ v ∷ [])
+
+-- What is swept is, also where a line holds a variable both ways.
+abbrev pub SweptFromTwoLines : Type 0
+SweptFromTwoLines = (cs : List Signs) → All (λ l. FromTwoLines cs l.origin) (swept cs)
 
 -- ---- nothing to sweep
 

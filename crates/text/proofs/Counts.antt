@@ -3,7 +3,7 @@ use Rattle.std.proofs.Common.{◌≡◌, ℕ, suc, ◌-◌, ◌≤◌, eqb, ltb,
 use Rattle.std.proofs.lemmas.Bool.{cond_both, eqb-false}
 use Rattle.text.specs.declared.reader.State.{State}
 use Rattle.text.specs.declared.reader.State.TheVariants.{BeforeProblem, BetweenClauses, InsideClause, Done}
-use Rattle.text.specs.Limits.{most_bytes, most_clauses, most_literals}
+use Rattle.limits.specs.Limits.{most_bytes, most_clauses, most_literals}
 use Rattle.tokens.specs.Numbers.{number_word}
 use Rattle.text.specs.Problem.{remaining}
 use Rattle.text.specs.Reading.{Reading, clauses_of, Step, on, gives, stops, between, step, go_on, read, reading}

@@ -1,3 +1,4 @@
 pub mod Counts
+pub mod Rest
 pub mod Steps
 pub mod Unread

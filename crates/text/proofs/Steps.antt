@@ -10,7 +10,7 @@ use Rattle.text.specs.declared.faults.ReadFault.TheVariants.{Text, Book}
 use Rattle.text.specs.declared.problem.Expected.{Expected}
 use Rattle.text.specs.declared.problem.Expected.TheVariants.{ProblemWord, FormatWord, Variables, Clauses}
 use Rattle.text.specs.declared.reader.State.TheVariants.{BeforeProblem, InsideClause}
-use Rattle.text.specs.Limits.{most_clauses}
+use Rattle.limits.specs.Limits.{most_clauses}
 use Rattle.tokens.specs.Numbers.{number_word}
 use Rattle.text.specs.Problem.{remaining, within, then_clauses, then_complete, expect}
 use Rattle.text.specs.Reading.{Step, on, gives, stops, between, after_problem, clause_word}

@@ -1,4 +1,3 @@
-pub mod Limits
 pub mod Refusals
 pub mod Problem
 pub mod Reading

@@ -8,7 +8,7 @@ use Rattle.text.specs.declared.problem.Expected.TheVariants.{ProblemWord, Format
 use Rattle.text.specs.declared.problem.Progress.{Progress}
 use Rattle.text.specs.declared.problem.Progress.TheVariants.{Expecting, Complete}
 use Rattle.text.specs.declared.reader.Remaining.{Remaining}
-use Rattle.text.specs.Limits.{most_bytes, most_variables, most_clauses}
+use Rattle.limits.specs.Limits.{most_bytes, most_variables, most_clauses}
 use Rattle.tokens.specs.Numbers.{number_word}
 use Rattle.tokens.specs.Words.{Piece, word, comment, pieces}
 

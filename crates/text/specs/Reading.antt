@@ -10,7 +10,7 @@ use Rattle.text.specs.declared.problem.Progress.{Progress}
 use Rattle.text.specs.declared.problem.Progress.TheVariants.{Expecting, Complete}
 use Rattle.text.specs.declared.reader.State.{State}
 use Rattle.text.specs.declared.reader.State.TheVariants.{BeforeProblem, BetweenClauses, InsideClause, Done}
-use Rattle.text.specs.Limits.{most_bytes, most_literals}
+use Rattle.limits.specs.Limits.{most_bytes, most_literals}
 use Rattle.tokens.specs.Numbers.{number_word}
 use Rattle.text.specs.Problem.{remaining, expect}
 use Rattle.tokens.specs.Words.{Piece, word, comment, pieces}

@@ -1,6 +1,22 @@
 // Why a text is refused. Refusals.antt gives each case its number.
 pub mod telling;
 
+// Who refuses: the session, the text, or the book that its clauses go to.
+#[derive(Clone, Copy, PartialEq, Eq, Debug)]
+pub enum Refuser {
+    Session,
+    Text,
+    Book,
+}
+
+// What a refusal tells: who refuses, its number, and a byte place counted from 0.
+#[derive(Clone, Copy, PartialEq, Eq, Debug)]
+pub struct Told {
+    pub refuser: Refuser,
+    pub number: u8,
+    pub place: usize,
+}
+
 // The text itself is at fault, at a byte place counted from 0.
 #[derive(Clone, Copy, PartialEq, Eq, Debug)]
 pub enum TextFault {

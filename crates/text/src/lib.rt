@@ -5,6 +5,5 @@
 #![tactic(auto)]
 
 pub mod faults;
-pub mod limits;
 pub mod problem;
 pub mod reader;

@@ -8,7 +8,7 @@ use Rattle.text.specs.declared.problem.Expected.TheVariants.{ProblemWord}
 use Rattle.text.specs.declared.reader.State.{State}
 use Rattle.text.specs.declared.reader.State.TheVariants.{BeforeProblem, BetweenClauses, InsideClause, Done}
 use Rattle.text_laws.specs.Laws.{Apart, RefusalLooksNoFurther}
-use Rattle.text.specs.Limits.{most_bytes, most_literals}
+use Rattle.limits.specs.Limits.{most_bytes, most_literals}
 use Rattle.tokens.specs.Numbers.{number_word}
 use Rattle.text.specs.Reading.{Reading, clause, well, refused, fault_of, Step, on, gives, stops, step, at_end, go_on, read, reading}
 use Rattle.text.specs.Refusals.{read_refusal, place_of}
@@ -17,16 +17,16 @@ use Rattle.tokens.specs.Words.{Piece, word, comment, parts_words, ends_line, ear
 use Rattle.tokens.proofs.Lines.{pieces_scanned}
 use Rattle.text.proofs.Steps.{problem_by, clause_by}
 
--- a word that is refused is refused at its place
-abbrev StopsAt : ℕ → Step → Type 0
-StopsAt p (on s ls) = Unit {0}
-StopsAt p (gives ls q s) = Unit {0}
-StopsAt p (stops f) = place_of (read_refusal f) ≡ p
+-- a word that ends a clause or is refused tells its own place
+abbrev pub TellsAt : ℕ → Step → Type 0
+TellsAt p (on s ls) = Unit {0}
+TellsAt p (gives ls q s) = q ≡ p
+TellsAt p (stops f) = place_of (read_refusal f) ≡ p
 
-step-at : (most limit : ℕ) (s : State) (ls : List ℤ) (p : ℕ) (w : List ℕ) → StopsAt p (step most limit s ls p w)
-step-at most limit (BeforeProblem e) ls p w = problem_by (StopsAt p) p (λ _ h. h) limit w (λ _. tt) (λ _ _ _. tt) e
-step-at most limit (BetweenClauses left) ls p w = clause_by (StopsAt p) p (λ _ h. h) most left.variables left.clauses [] tt (λ _. tt) (number_word w)
-step-at most limit (InsideClause left) ls p w = clause_by (StopsAt p) p (λ _ h. h) most left.variables left.clauses ls tt (λ _. tt) (number_word w)
+pub step-at : (most limit : ℕ) (s : State) (ls : List ℤ) (p : ℕ) (w : List ℕ) → TellsAt p (step most limit s ls p w)
+step-at most limit (BeforeProblem e) ls p w = problem_by (TellsAt p) p (λ _ h. h) limit w (λ _. tt) (λ _ _ _. tt) e
+step-at most limit (BetweenClauses left) ls p w = clause_by (TellsAt p) p (λ _ h. h) most left.variables left.clauses [] refl (λ _. tt) (number_word w)
+step-at most limit (InsideClause left) ls p w = clause_by (TellsAt p) p (λ _ h. h) most left.variables left.clauses ls refl (λ _. tt) (number_word w)
 step-at most limit Done ls p w = refl
 
 -- no word stands before the place q
@@ -46,7 +46,7 @@ refused_where q well f h e = let no : ◌≡◌ {A = ℕ} 0 1 = cc in omega arit
 refused_where q (refused g) f h e = let same : g ≡ f = cc in rw same at h
 
 -- after one step: what is left is refused later, or is read alike
-go_on-later : (q p : ℕ) (t : Step) (rest : State → List ℤ → Reading) → q ≤ p → StopsAt p t → ((s : State) (ls : List ℤ) → RefusedLater q (rest s ls)) → RefusedLater q (go_on t rest)
+go_on-later : (q p : ℕ) (t : Step) (rest : State → List ℤ → Reading) → q ≤ p → TellsAt p t → ((s : State) (ls : List ℤ) → RefusedLater q (rest s ls)) → RefusedLater q (go_on t rest)
 go_on-later q p (on s ls) rest h same more = more s ls
 go_on-later q p (gives ls r s) rest h same more = more s []
 go_on-later q p (stops f) rest h same more = omega arith

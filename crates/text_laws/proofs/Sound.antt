@@ -19,16 +19,17 @@ use Rattle.text.specs.declared.problem.Progress.TheVariants.{Expecting, Complete
 use Rattle.text.specs.declared.reader.State.{State}
 use Rattle.text.specs.declared.reader.State.TheVariants.{BeforeProblem, BetweenClauses, InsideClause, Done}
 use Rattle.text_laws.specs.Laws.{SoundTextsSayTheirClauses}
-use Rattle.text.specs.Limits.{most_bytes, most_clauses, most_literals}
+use Rattle.limits.specs.Limits.{most_bytes, most_clauses, most_literals}
 use Rattle.tokens.specs.Numbers.{number_word}
-use Rattle.text.specs.Problem.{remaining, within, then_clauses, then_complete, expect, sizes, go_on as line_goes_on}
+use Rattle.text.specs.Problem.{remaining, within, then_clauses, then_complete, expect}
 use Rattle.text.specs.Reading.{Reading, refused, clauses_of, fault_of, Step, on, gives, stops, between, after_problem, clause_word, step, at_end, go_on, read}
 use Rattle.tokens.specs.Words.{Piece, word, comment, pieces, words_of}
 use Rattle.text_laws.specs.Writing.{Literal, Writable, clause_words, saying}
+use Rattle.text_laws.specs.Standing.{Sound}
 use Rattle.text_laws.proofs.Numerals.{number_words}
 
 -- a result that is no refusal, and P holds of it
-abbrev Accepted : (Progress → Type 0) → Result Progress TextFault → Type 0
+abbrev pub Accepted : (Progress → Type 0) → Result Progress TextFault → Type 0
 Accepted P (Err f) = ⊥
 Accepted P (Ok g) = P g
 
@@ -63,77 +64,57 @@ module _ (most place : ℕ) (w : List ℕ) (Q : Result ℕ TextFault → Type 0)
   within_number = (within_tells (number_word w) refl, λ (k, e, small, l, h). rw ((number_words w (pos k)).1 e small, le-ltb most k l) h)
 
 -- a word of the problem line is accepted exactly if it is the one that is expected
-expect-brings : (limit : ℕ) (P : Progress → Type 0) (e : Expected) (p : ℕ) (w : List ℕ) → Accepted P (expect limit e p w) ↔ Brings limit P e w
+pub expect-brings : (limit : ℕ) (P : Progress → Type 0) (e : Expected) (p : ℕ) (w : List ℕ) → Accepted P (expect limit e p w) ↔ Brings limit P e w
 expect-brings limit P ProblemWord p w = same_word P w (codes "p") _ _
 expect-brings limit P FormatWord p w = same_word P w (codes "cnf") _ _
 expect-brings limit P Variables p w = within_number limit p w (λ r. Accepted P (then_clauses r)) (λ f h. h)
 expect-brings limit P (Clauses n) p w = within_number most_clauses p w (λ r. Accepted P (then_complete n r)) (λ f h. h)
 
 -- from a progress on, the words ws complete the problem line, and P holds of n, m and the words after it
-abbrev Completes : ℕ → (ℕ → ℕ → List (List ℕ) → Type 0) → Progress → List (List ℕ) → Type 0
+abbrev pub Completes : ℕ → (ℕ → ℕ → List (List ℕ) → Type 0) → Progress → List (List ℕ) → Type 0
 Completes limit P (Complete r) ws = P r.variables r.clauses ws
 Completes limit P (Expecting e) [] = ⊥
 Completes limit P (Expecting e) (w ∷ ws) = Brings limit (λ g. Completes limit P g ws) e w
 
 -- the words ws begin with a whole problem line, and P holds of n, m and the words after it
-abbrev HasLine : ℕ → (ℕ → ℕ → List (List ℕ) → Type 0) → List (List ℕ) → Type 0
+abbrev pub HasLine : ℕ → (ℕ → ℕ → List (List ℕ) → Type 0) → List (List ℕ) → Type 0
 HasLine limit P ws =
     (n m : ℕ) × (rest : List (List ℕ)) × (n < 100000) × (n ≤ limit) × (m ≤ most_clauses)
     × (ws ≡ codes "p" ∷ codes "cnf" ∷ decimal n ∷ decimal m ∷ rest) × P n m rest
 
 -- the two say the same
 module _ (limit : ℕ) (P : ℕ → ℕ → List (List ℕ) → Type 0) where
-  line_tells : (ws : List (List ℕ)) → Completes limit P (Expecting ProblemWord) ws → HasLine limit P ws
+  pub line_tells : (ws : List (List ℕ)) → Completes limit P (Expecting ProblemWord) ws → HasLine limit P ws
   line_tells [] h = absurd h
   line_tells (w ∷ []) h = absurd h.1
   line_tells (w ∷ v ∷ []) h = absurd h.1.1
   line_tells (w ∷ v ∷ a ∷ []) h = absurd h.1.1.4
   line_tells (w ∷ v ∷ a ∷ b ∷ rest) (d, (e, (n, f, small, l, (m, g, _, few, h)))) = (n, m, rest, small, l, few, cc, h)
 
-  line_completes : (ws : List (List ℕ)) → HasLine limit P ws → Completes limit P (Expecting ProblemWord) ws
+  pub line_completes : (ws : List (List ℕ)) → HasLine limit P ws → Completes limit P (Expecting ProblemWord) ws
   line_completes ws (n, m, rest, small, l, few, e, h) = rw e (refl, (refl, (n, refl, small, l, (m, refl, omega arith, few, h))))
-
--- pieces whose words complete a problem line with n and m have these sizes
-module _ (limit end n m : ℕ) where
-  abbrev Sizes : ℕ → ℕ → List (List ℕ) → Type 0
-  Sizes k l ws = (k ≡ n) × (l ≡ m)
-
-  sizes-after : (r : Result Progress TextFault) (ps : List Piece) → ((e : Expected) → Completes limit Sizes (Expecting e) (words_of ps) → sizes limit end e ps ≡ Ok (n, m))
-      → Accepted (λ g. Completes limit Sizes g (words_of ps)) r → line_goes_on r (λ e. sizes limit end e ps) ≡ Ok (n, m)
-  sizes-after (Err f) ps more h = absurd h
-  sizes-after (Ok (Expecting e)) ps more h = more e h
-  sizes-after (Ok (Complete r)) ps more h = cc
-
-  sizes_from : (e : Expected) (ps : List Piece) → Completes limit Sizes (Expecting e) (words_of ps) → sizes limit end e ps ≡ Ok (n, m)
-  sizes_from e [] h = absurd h
-  sizes_from e (comment p c ∷ ps) h = sizes_from e ps h
-  sizes_from e (word p w ∷ ps) h = sizes-after (expect limit e p w) ps (λ e'. sizes_from e' ps) ((expect-brings limit _ e p w).1 h)
-
-  pub line-sizes : (ps : List Piece) (rest : List (List ℕ)) → n < 100000 → n ≤ limit → m ≤ most_clauses
-      → words_of ps ≡ codes "p" ∷ codes "cnf" ∷ decimal n ∷ decimal m ∷ rest → sizes limit end ProblemWord ps ≡ Ok (n, m)
-  line-sizes ps rest small l few e = sizes_from ProblemWord ps (line_completes limit Sizes (words_of ps) (n, m, rest, small, l, few, e, (refl, refl)))
 
 -- a reading of just these clauses, that ends well
 abbrev Says : List (List ℤ) → Reading → Type 0
 Says cs r = (clauses_of r ≡ cs) × (fault_of r ≡ None)
 
 -- a refusal says no clauses
-refused_says : {P : Type 0} (f : ReadFault) (cs : List (List ℤ)) → (P → ⊥) → Says cs (refused f) ↔ P
+pub refused_says : {P : Type 0} (f : ReadFault) (cs : List (List ℤ)) → (P → ⊥) → Says cs (refused f) ↔ P
 refused_says f cs never = (λ (_, e). let no : ◌≡◌ {A = ℕ} 0 1 = cc in absurd (omega arith), λ h. absurd (never h))
 
 -- the words ws say m clauses cs over n variables; no word says a number above 99999
-abbrev ClausesSaid : ℕ → ℕ → List (List ℕ) → List (List ℤ) → Type 0
+abbrev pub ClausesSaid : ℕ → ℕ → List (List ℕ) → List (List ℤ) → Type 0
 ClausesSaid n m ws cs =
     (length cs ≡ m) × (ws ≡ flat_map clause_words cs) × AllByRecursion (λ c. (length c ≤ most_literals) × AllByRecursion (Literal (min n 99999)) c) cs
 
 -- the words ws say `left` clauses cs, where the literals ls of the first one are read already
-abbrev RestSaid : ℕ → ℕ → List ℤ → List (List ℕ) → List (List ℤ) → Type 0
+abbrev pub RestSaid : ℕ → ℕ → List ℤ → List (List ℕ) → List (List ℤ) → Type 0
 RestSaid n left ls ws cs =
     (xs : List ℤ) × (ds : List (List ℤ)) × (rest : List (List ℕ)) × (cs ≡ (ls ++ xs) ∷ ds) × (ws ≡ clause_words xs ++ rest)
     × (length xs ≤ most_literals - length ls) × AllByRecursion (Literal (min n 99999)) xs × ClausesSaid n (left - 1) rest ds
 
 -- in a state, the words ws that are left say the clauses cs that are left
-abbrev Said : ℕ → State → List ℤ → List (List ℕ) → List (List ℤ) → Type 0
+abbrev pub Said : ℕ → State → List ℤ → List (List ℕ) → List (List ℤ) → Type 0
 Said limit (BeforeProblem e) ls ws cs = Completes limit (λ n m rest. ClausesSaid n m rest cs) (Expecting e) ws
 Said limit (BetweenClauses left) ls ws cs = RestSaid left.variables left.clauses [] ws cs
 Said limit (InsideClause left) ls ws cs = RestSaid left.variables left.clauses ls ws cs
@@ -154,7 +135,7 @@ module _ (limit n : ℕ) where
   between_said (suc m) ws (c ∷ cs) (k, e, a) = rw eqb-suc-zero (c, cs, flat_map clause_words cs, refl, e, a.0.0, a.0.1, (omega arith, refl, a.1))
 
 -- 0 is written 0
-zero_word : (x : ℤ) → nat_abs x ≡ 0 → signed_decimal x ≡ 48 ∷ []
+pub zero_word : (x : ℤ) → nat_abs x ≡ 0 → signed_decimal x ≡ 48 ∷ []
 zero_word (pos n) z = rw z (decimal_digit 0 (omega arith))
 zero_word (negsuc n) z = absurd (omega arith)
 
@@ -166,7 +147,7 @@ no_words (x ∷ xs) rest e = nil≢cons e
 -- a word w before the words ws
 module _ (limit : ℕ) (ws : List (List ℕ)) (cs : List (List ℤ)) where
   -- after the step that w brings, the words ws say what is left of the clauses cs
-  abbrev Brought : Step → Type 0
+  abbrev pub Brought : Step → Type 0
   Brought (on s ls) = Said limit s ls ws cs
   Brought (gives ls p s) = (ds : List (List ℤ)) × (cs ≡ ls ∷ ds) × Said limit s [] ws ds
   Brought (stops f) = ⊥
@@ -213,14 +194,14 @@ module _ (limit : ℕ) (ws : List (List ℕ)) (cs : List (List ℤ)) where
         rw (known, takes) (xs, ds, rest, rw append_assoc e, cc, omega (arith, length-append ls (x ∷ [])), a.1, s)
 
   -- a word in any state
-  step-brings : (s : State) (ls : List ℤ) (p : ℕ) (w : List ℕ) → Brought (step most_literals limit s ls p w) ↔ Said limit s ls (w ∷ ws) cs
+  pub step-brings : (s : State) (ls : List ℤ) (p : ℕ) (w : List ℕ) → Brought (step most_literals limit s ls p w) ↔ Said limit s ls (w ∷ ws) cs
   step-brings (BeforeProblem e) ls p w = Iff.trans (problem_brings (expect limit e p w)) (expect-brings limit _ e p w)
   step-brings (BetweenClauses left) ls p w = (clause_tells left.variables left.clauses [] p w (number_word w) refl, clause_said left.variables left.clauses [] p w)
   step-brings (InsideClause left) ls p w = (clause_tells left.variables left.clauses ls p w (number_word w) refl, clause_said left.variables left.clauses ls p w)
   step-brings Done ls p w = (λ h. absurd h, λ (e, _). absurd (cons≢nil e))
 
 module _ (limit end : ℕ) where
-  end_says : (s : State) (ls : List ℤ) (cs : List (List ℤ)) → Says cs (at_end end s) ↔ Said limit s ls [] cs
+  pub end_says : (s : State) (ls : List ℤ) (cs : List (List ℤ)) → Says cs (at_end end s) ↔ Said limit s ls [] cs
   end_says (BeforeProblem e) ls cs = refused_says _ cs (λ h. h)
   end_says (BetweenClauses left) ls cs = refused_says _ cs (λ h. no_words h.0 h.2 h.4)
   end_says (InsideClause left) ls cs = refused_says _ cs (λ h. no_words h.0 h.2 h.4)
@@ -236,10 +217,17 @@ module _ (limit end : ℕ) where
 
 -- a problem line with n and m, and m clauses after it, are the words `saying n cs`
 line_says : (limit : ℕ) (ws : List (List ℕ)) (cs : List (List ℤ))
-    → HasLine limit (λ n m rest. ClausesSaid n m rest cs) ws ↔ ((n : ℕ) × (n ≤ limit) × Writable n cs × (ws ≡ saying n cs))
+    → HasLine limit (λ n m rest. ClausesSaid n m rest cs) ws ↔ Sound limit ws cs
 line_says limit ws cs = (
   λ (n, m, rest, small, l, few, e, (k, f, a)). let same : min n 99999 ≡ n = omega arith in (n, l, (small, omega arith, rw same at a), cc),
   λ (n, l, (small, few, a), e). let same : min n 99999 ≡ n = omega arith in (n, length cs, flat_map clause_words cs, small, l, few, e, (refl, refl, rw same a)),
+)
+
+-- the words that say clauses, from the start on, are those of a sound text
+pub said-sound : (limit : ℕ) (ws : List (List ℕ)) (cs : List (List ℤ)) → Said limit (BeforeProblem ProblemWord) [] ws cs ↔ Sound limit ws cs
+said-sound limit ws cs = (
+  λ h. (line_says limit ws cs).0 (line_tells limit _ ws h),
+  λ s. line_completes limit _ ws ((line_says limit ws cs).1 s),
 )
 
 pub sound_texts : SoundTextsSayTheirClauses
@@ -248,6 +236,6 @@ sound_texts limit text cs =
     let says = read_says limit (length text) (BeforeProblem ProblemWord) [] (pieces text) cs in (
       cond_both (ltb most_bytes (length text)) _ _ (λ r. Says cs r → (n : ℕ) × (n ≤ limit) × Writable n cs × (length text ≤ most_bytes) × (ws ≡ saying n cs))
           (λ _ h. absurd ((refused_says _ cs (λ no. no)).0 h))
-          (λ short h. let (n, l, a, e) = (line_says limit ws cs).0 (line_tells limit _ ws (says.0 h)) in (n, l, a, ltb-false _ _ short, e)),
-      λ n l a short e. rw (le-ltb most_bytes (length text) short) (says.1 (line_completes limit _ ws ((line_says limit ws cs).1 (n, l, a, e)))),
+          (λ short h. let (n, l, a, e) = (said-sound limit ws cs).0 (says.0 h) in (n, l, a, ltb-false _ _ short, e)),
+      λ n l a short e. rw (le-ltb most_bytes (length text) short) (says.1 ((said-sound limit ws cs).1 (n, l, a, e))),
     )

@@ -3,17 +3,18 @@ use Rattle.std.proofs.Common.{◌≡◌, ℕ, suc, ◌+◌, ◌<◌, ◌≤◌, 
 use Rattle.std.specs.List.{flat_map, AllByRecursion}
 use Rattle.std.specs.Fmt.{signed_decimal}
 use Rattle.std.proofs.lemmas.Fmt.{decimal_nonempty, digits_decimal}
-use Rattle.std.proofs.lemmas.Bool.{le-ltb, and_parts}
+use Rattle.std.proofs.lemmas.Bool.{and_parts}
 use Rattle.std.proofs.lemmas.Bool.Decides.{nat_tests}
 use Rattle.text_laws.specs.Laws.{WrittenIsRead, WrittenHasItsHead}
-use Rattle.text.specs.Limits.{most_bytes, most_variables, most_literals}
+use Rattle.limits.specs.Limits.{most_literals}
 use Rattle.tokens.specs.Numbers.{is_digit, all_digits}
 use Rattle.tokens.specs.Scanning.{a_word, scan, gap, inside}
 use Rattle.tokens.specs.Words.{pieces, words_of, parts_words, ends_line}
 use Rattle.text_laws.specs.Writing.{Literal, Writable, clause_words, clause_line, saying, written}
 use Rattle.tokens.proofs.Lines.{pieces_scanned}
 use Rattle.text_laws.proofs.Numerals.{own}
-use Rattle.text_laws.proofs.Sound.{sound_texts, line-sizes}
+use Rattle.text_laws.proofs.Headed.{head_tells}
+use Rattle.text_laws.proofs.Sound.{sound_texts}
 
 -- bytes that part no words
 abbrev Inner : List ℕ → Type 0
@@ -75,5 +76,5 @@ written_read limit n cs a l fits = (sound_texts limit (written n cs) cs).1 n l a
 
 pub written_head : WrittenHasItsHead
 written_head n cs a l fits =
-    rw (le-ltb most_bytes (length (written n cs)) fits)
-    (line-sizes most_variables (length (written n cs)) n (length cs) (pieces (written n cs)) _ a.0 l a.1 (written-words n cs a))
+    ((head_tells (written n cs)).0 n (length cs)).1
+    (record { short = fits; narrow = l; few = a.1; rest = _; words = written-words n cs a })

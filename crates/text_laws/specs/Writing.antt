@@ -2,7 +2,7 @@
 use Rattle.std.specs.Prelude.{ℕ, ◌<◌, ◌≤◌, List, [], ◌∷◌, ◌++◌, length, ℤ, codes, decimal, unsigned_abs}
 use Rattle.std.specs.List.{flat_map, AllByRecursion}
 use Rattle.std.specs.Fmt.{signed_decimal}
-use Rattle.text.specs.Limits.{most_literals, most_clauses}
+use Rattle.limits.specs.Limits.{most_literals, most_clauses}
 
 -- a literal of one of n variables: `unsigned_abs x` is its variable
 abbrev pub Literal : ℕ → ℤ → Type 0
@@ -11,7 +11,8 @@ Literal n x = (0 < unsigned_abs x) × (unsigned_abs x ≤ n)
 -- clauses that a text over n variables can hold
 abbrev pub Writable : ℕ → List (List ℤ) → Type 0
 Writable n cs =
-    (n < 100000) × (length cs ≤ most_clauses) × AllByRecursion (λ c. (length c ≤ most_literals) × AllByRecursion (Literal n) c) cs
+    (n < 100000) × (length cs ≤ most_clauses)
+    × AllByRecursion (λ c. (length c ≤ most_literals) × AllByRecursion (Literal n) c) cs
 
 -- the words of a clause: its literals in decimal, and 0
 abbrev pub clause_words : List ℤ → List (List ℕ)

@@ -1,14 +1,16 @@
 // What reading a whole text comes to.
+use limits::{MOST_CLAUSES, MOST_LITERALS};
 use text::faults::telling::Telling;
-use text::limits::{MOST_CLAUSES, MOST_LITERALS};
 use text::reader::Reader;
 
-// How many clauses and literals were read, and the refusal, if there is one:
-// the number and the place that a user is told.
+// How many clauses and literals were read, the place of the last clause's
+// ending 0, and the refusal, if there is one: the number and the place that a
+// user is told.
 #[derive(Clone, Copy, PartialEq, Eq, Debug)]
 pub struct Outcome {
     pub clauses: u32,
     pub literals: usize,
+    pub last: Option<usize>,
     pub refusal: Option<(u8, usize)>,
 }
 
@@ -20,12 +22,14 @@ pub(crate) fn read_whole(text: &[u8], limit: u32) -> Outcome {
     let mut read = Outcome {
         clauses: 0,
         literals: 0,
+        last: None,
         refusal: None,
     };
     for _ in 0..=MOST_CLAUSES {
         match reader.next_clause() {
             Ok(None) => return read,
-            Ok(Some(_)) => {
+            Ok(Some(end)) => {
+                read.last = Some(end);
                 read.clauses = read.clauses.saturating_add(1);
                 read.literals = read.literals.saturating_add(reader.clause().len());
             }

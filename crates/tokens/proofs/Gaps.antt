@@ -10,7 +10,7 @@ use Rattle.tokens.specs.Words.{Piece, word, comment, parts_words, ends_line, ear
 use Rattle.tokens.specs.Scanning.{Part, a_word, a_comment, Mode, gap, inside, part_ends, piece_of, early_past_part, opened, unended, scan, begins_line, pieces_from, coming, GapEnds, opens_here}
 
 -- after the byte at p, the next place begins a line if that byte is LF
-next_line : (t : List ℕ) (p : ℕ) → begins_line t (p + 1) ≡ ends_line (get_or t p 0)
+pub next_line : (t : List ℕ) (p : ℕ) → begins_line t (p + 1) ≡ ends_line (get_or t p 0)
 next_line t p =
     let no : eqb (p + 1) 0 ≡ false = ne_eqb (p + 1) 0 (λ e. omega arith) in
     let back : p + 1 - 1 ≡ p = omega arith in
@@ -21,11 +21,11 @@ pub within : (test : ℕ → Bool) (bytes : List ℕ) (n : ℕ) → n ≡ prefix
 within test bytes n e = omega (arith, e, prefix_len-le-length test bytes)
 
 -- a byte that ends a part, as LF a comment, parts words
-ends_parts : (part : Part) (b : ℕ) → part_ends part b ≡ true → parts_words b ≡ true
+pub ends_parts : (part : Part) (b : ℕ) → part_ends part b ≡ true → parts_words b ≡ true
 ends_parts a_word b y = y
 ends_parts a_comment b y = grind (arith, nat_tests)
 
-no_end : (part : Part) (b : ℕ) → parts_words b ≡ false → part_ends part b ≡ false
+pub no_end : (part : Part) (b : ℕ) → parts_words b ≡ false → part_ends part b ≡ false
 no_end a_word b y = y
 no_end a_comment b y = grind (arith, nat_tests)
 

@@ -1,2 +1,2 @@
-mod Gaps
+pub mod Gaps
 pub mod Lines

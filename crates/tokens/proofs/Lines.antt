@@ -24,7 +24,7 @@ on_line (inside a_word early s w) p l = lengthened s w (stretches parts_words p 
 on_line (inside a_comment early s w) p l = comment s (w ++ l) ∷ []
 
 -- the pieces ps, and those of the lines after them
-abbrev then_lines : Bool → List Piece → List Stretch → List Piece
+abbrev pub then_lines : Bool → List Piece → List Stretch → List Piece
 then_lines early ps ls = ps ++ pieces_of_lines (early_past early ps) ls
 
 -- the pieces that a scan gives, by the rest of its line and the lines after it
@@ -74,7 +74,7 @@ module _ (p b : ℕ) (l : List ℕ) (ls : List Stretch) (same_line : ends_line b
   line_goes_on (inside a_comment early s w) t e = rw (same_line, append_assoc)
 
 -- stretches begin where the bytes do
-abbrev Begins : ℕ → List Stretch → Type 0
+abbrev pub Begins : ℕ → List Stretch → Type 0
 Begins p ss = (l : List ℕ) × (ls : List Stretch) × (ss ≡ at p l ∷ ls)
 
 cut_begins : (t : Bool) (p b : ℕ) (ss : List Stretch) → Begins p (cut t p b ss)
@@ -82,7 +82,7 @@ cut_begins true p b ss = ([], ss, refl)
 cut_begins false p b [] = (b ∷ [], [], refl)
 cut_begins false p b (at q v ∷ ss) = (b ∷ v, ss, refl)
 
-lines_begin : (p : ℕ) (bs : List ℕ) → Begins p (lines p bs)
+pub lines_begin : (p : ℕ) (bs : List ℕ) → Begins p (lines p bs)
 lines_begin p [] = ([], [], refl)
 lines_begin p (b ∷ bs) = cut_begins (ends_line b) p b (lines (p + 1) bs)
 

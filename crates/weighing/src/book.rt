@@ -1,13 +1,13 @@
 // A book as the steps read it.
 ghost use Rattle.std.specs.Prelude.{◌≡◌, ◌≤◌, true, length, is_some, IfSome};
 ghost use Rattle.std.specs.List.{list_all};
-ghost use Rattle.guides.specs.declared.row.TheConstants.{MOST_LINES};
+ghost use Rattle.limits.specs.Limits.{most_lines};
 ghost use Rattle.words.specs.Bits.{width};
 ghost use Rattle.clauses.specs.Clauses.{within};
 ghost use Rattle.lines.specs.Lines.{clause_of, clauses};
 ghost use Rattle.weighing.specs.Readable.{readable};
 
-use guides::row::MOST_LINES;
+use limits::MOST_LINES;
 use lines::line::Line;
 use words::sets::{self, WIDTH};
 
@@ -18,7 +18,7 @@ use words::sets::{self, WIDTH};
 pub struct Book<'a> {
     pub lines: &'a [Line],
     pub n: u32,
-    pub ghost few: { length lines.now ≤ MOST_LINES },
+    pub ghost few: { length lines.now ≤ most_lines },
     pub ghost wide: { n ≤ width },
     pub ghost inside: { list_all (within n) (clauses lines.now) ≡ true },
 }

@@ -16,7 +16,8 @@ use words::sets;
 
 // An assignment that stands flipped until this is dropped. Made by a literal
 // where it stands, since what a function returns is not known to be the
-// caller's own assignment.
+// caller's own assignment. No contract can see the guard: weighing a flipped
+// copy would meet them all.
 struct Flipped<'a> {
     assignment: &'a mut Full,
     bit: u64,

@@ -6,7 +6,8 @@ ghost use Rattle.weighing.specs.Books.{standing};
 ghost use Rattle.steps.specs.Rows.{row};
 
 use crate::book::Book;
-use guides::row::{LENGTHS, Row};
+use guides::row::Row;
+use limits::LENGTHS;
 use valuations::judging::is_broken;
 use valuations::valuation::Full;
 

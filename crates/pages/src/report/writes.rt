@@ -9,16 +9,23 @@ ghost use Rattle.pages.specs.Reports.{literal as literal_of, true_literals, told
 use super::Reporting;
 use answers::report::Report;
 use answers::run::Outcome;
+use clauses::literal::opposite;
 use words::sets;
 use writing::page::Page;
 use writing::written::Written;
 
-// A variable as the literal of it that is true.
+// A variable as the literal of it that is true. It is at most 64, so it has an
+// opposite.
 fn literal(v: u32, is_true: bool) -> i32
     requires { v ≤ width }
     ensures value { result ≡ literal_of v is_true }
 {
-    if is_true { v as i32 } else { -(v as i32) }
+    let literal = v as i32;
+    if is_true {
+        literal
+    } else {
+        opposite(literal).unwrap_or(literal)
+    }
 }
 
 // The literals that are true, and 0.

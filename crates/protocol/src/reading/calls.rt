@@ -5,8 +5,7 @@ ghost use Rattle.protocol.specs.Reading.{lone as lone_of, hexadecimal_of, text_o
 
 use super::numbers::{hexadecimal, integers, natural};
 use super::texts::text;
-use crate::call::{Call, GuideName};
-use crate::limits::MOST_SIZE;
+use crate::call::{Call, GuideName, MOST_SIZE};
 use answers::report::Report;
 use answers::run::Outcome;
 use std::alloc::{AllocError, Global};

@@ -3,7 +3,7 @@ ghost use Rattle.std.specs.Prelude.{◌≡◌, ◌≤◌, IfOk, IfSome, length, 
 ghost use Rattle.protocol.specs.Reading.{hex_of, front_of, padding_of, padded_of, short, text_of};
 
 use super::numbers::natural;
-use crate::limits::MOST_SIZE;
+use crate::call::MOST_SIZE;
 use hex::FromHexError;
 use std::alloc::{AllocError, Global};
 

@@ -7,10 +7,10 @@ ghost use Rattle.session.specs.Sessions.{Accepts, Enters, Guarantees, KeepsPlace
 
 use super::Session;
 use answers::refusal::Refusal;
+use limits::MOST_LITERALS;
 use lines::book::number;
 use lines::given::given_line;
 use lines::line::Line;
-use text::limits::MOST_LITERALS;
 
 impl<'a> Session<'a> {
     // Enters a given line: the number of the line that is its clause already,

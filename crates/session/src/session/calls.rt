@@ -10,7 +10,7 @@ ghost use Rattle.session.specs.Sessions.{state, line_of, line_told, Guarantees, 
 
 use super::Session;
 use answers::refusal::Refusal;
-use guides::row::MOST_LINES;
+use limits::{MOST_LINES, MOST_VARIABLES};
 use lines::line::Line;
 use table::filled::Filled;
 use valuations::valuation::Full;
@@ -51,7 +51,7 @@ impl<'a> Session<'a> {
         if self.n != 0 {
             return Err(Refusal::AlreadyOpen);
         }
-        if n == 0 || n > WIDTH {
+        if n == 0 || n > MOST_VARIABLES {
             return Err(Refusal::VariablesOutOfRange);
         }
         // Unopened, all its places are free.

@@ -7,8 +7,8 @@ ghost use Rattle.session.specs.Sessions.{state, places as places_in, Loads, Guar
 
 use super::Session;
 use answers::load::{LoadFault, LoadRefusal};
+use limits::MOST_LITERALS;
 use text::faults::BookFault;
-use text::limits::MOST_LITERALS;
 use text::reader::Reader;
 
 impl<'a> Session<'a> {

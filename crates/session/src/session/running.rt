@@ -8,13 +8,11 @@ use super::Session;
 use answers::refusal::Refusal;
 use answers::run::{Outcome, Ran};
 use guides::guide::Guide;
+use limits::MOST_STEPS;
 use search::due::{Step, due};
 use search::looking::{Seen, look};
 use weighing::book::Book;
 use words::sets;
-
-// Steps that one run may make.
-pub const MOST_STEPS: u32 = 1_000_000;
 
 impl<'a> Session<'a> {
     // What a run sees before a step.

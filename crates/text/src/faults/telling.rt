@@ -2,47 +2,55 @@
 // reader's.
 ghost use Rattle.std.specs.Prelude.{◌≡◌};
 ghost use Rattle.text.specs.declared.faults.ReadFault.TheVariants.{Text, Book};
-ghost use Rattle.text.specs.Refusals.{Refusal, text_refusal, book_refusal, read_refusal, number_of, place_of};
+ghost use Rattle.text.specs.declared.faults.Told.{Told};
+ghost use Rattle.text.specs.Refusals.{text_refusal, book_refusal, read_refusal, by_of, number_of, place_of};
 
-use super::{BookFault, ReadFault, TextFault};
+use super::{BookFault, ReadFault, Refuser, TextFault, Told};
 
-// What a refusal tells: its number, and a byte place counted from 0.
+// What a refusal tells, from one definition for each kind of fault.
 pub trait Telling {
-    ghost refusal: { Self → Refusal };
+    ghost refusal: { Self → Told };
+
+    fn told(&self) -> Told
+        ensures value { result ≡ refusal self.now };
+
+    fn refuser(&self) -> Refuser
+        ensures value { result ≡ by_of (refusal self.now) }
+    {
+        self.told().refuser
+    }
 
     fn number(&self) -> u8
-        ensures value { result ≡ number_of (refusal self.now) };
+        ensures value { result ≡ number_of (refusal self.now) }
+    {
+        self.told().number
+    }
 
     fn place(&self) -> usize
-        ensures value { result ≡ place_of (refusal self.now) };
+        ensures value { result ≡ place_of (refusal self.now) }
+    {
+        self.told().place
+    }
 }
 
 impl Telling for TextFault {
     ghost refusal = { text_refusal };
 
-    fn number(&self) -> u8 {
-        match self {
-            TextFault::TooLong => 9,
-            TextFault::NotProblemLine { .. } => 10,
-            TextFault::TooLarge { .. } => 11,
-            TextFault::NotNumber { .. } => 12,
-            TextFault::AboveVariables { .. } => 13,
-            TextFault::EndsInsideClause { .. } => 14,
-            TextFault::WordAfterClauses { .. } => 15,
-            TextFault::ClausesMissing { .. } => 16,
-        }
-    }
-
-    fn place(&self) -> usize {
-        match self {
-            TextFault::TooLong => 0,
-            TextFault::NotProblemLine { place }
-            | TextFault::TooLarge { place }
-            | TextFault::NotNumber { place }
-            | TextFault::AboveVariables { place }
-            | TextFault::EndsInsideClause { place }
-            | TextFault::WordAfterClauses { place }
-            | TextFault::ClausesMissing { place } => *place,
+    fn told(&self) -> Told {
+        let (number, place) = match self {
+            TextFault::TooLong => (9, 0),
+            TextFault::NotProblemLine { place } => (10, *place),
+            TextFault::TooLarge { place } => (11, *place),
+            TextFault::NotNumber { place } => (12, *place),
+            TextFault::AboveVariables { place } => (13, *place),
+            TextFault::EndsInsideClause { place } => (14, *place),
+            TextFault::WordAfterClauses { place } => (15, *place),
+            TextFault::ClausesMissing { place } => (16, *place),
+        };
+        Told {
+            refuser: Refuser::Text,
+            number,
+            place,
         }
     }
 }
@@ -50,17 +58,15 @@ impl Telling for TextFault {
 impl Telling for BookFault {
     ghost refusal = { book_refusal };
 
-    fn number(&self) -> u8 {
-        match self {
-            BookFault::TooManyLiterals { .. } => 6,
-            BookFault::NoFreePlace { .. } => 8,
-        }
-    }
-
-    fn place(&self) -> usize {
-        match self {
-            BookFault::TooManyLiterals { place } => *place,
-            BookFault::NoFreePlace { place } => *place,
+    fn told(&self) -> Told {
+        let (number, place) = match self {
+            BookFault::TooManyLiterals { place } => (6, *place),
+            BookFault::NoFreePlace { place } => (8, *place),
+        };
+        Told {
+            refuser: Refuser::Book,
+            number,
+            place,
         }
     }
 }
@@ -68,17 +74,10 @@ impl Telling for BookFault {
 impl Telling for ReadFault {
     ghost refusal = { read_refusal };
 
-    fn number(&self) -> u8 {
+    fn told(&self) -> Told {
         match self {
-            ReadFault::Text(fault) => fault.number(),
-            ReadFault::Book(fault) => fault.number(),
-        }
-    }
-
-    fn place(&self) -> usize {
-        match self {
-            ReadFault::Text(fault) => fault.place(),
-            ReadFault::Book(fault) => fault.place(),
+            ReadFault::Text(fault) => fault.told(),
+            ReadFault::Book(fault) => fault.told(),
         }
     }
 }

@@ -5,8 +5,8 @@ ghost use Rattle.tokens.specs.Scanning.{piece_at};
 
 use super::{Expected, Progress};
 use crate::faults::TextFault;
-use crate::limits::{MOST_BYTES, MOST_CLAUSES, MOST_VARIABLES};
 use crate::reader::Remaining;
+use limits::{MOST_BYTES, MOST_CLAUSES, MOST_VARIABLES};
 use tokens::stream::{Placed, Token, Tokens};
 
 // A number without minus sign, at most `most`.

@@ -1,15 +1,15 @@
 // Reading a text, clause by clause.
 ghost use Rattle.std.specs.Prelude.{◌≡◌, ◌-◌, [], length, Ok};
-ghost use Rattle.table.specs.Held.{held};
+ghost use Rattle.table.specs.Held.{places_of};
 ghost use Rattle.tokens.specs.Scanning.{piece_at};
 ghost use Rattle.text.specs.Problem.{remaining};
 ghost use Rattle.text.specs.Reading.{on, after_problem, at_end, between, reading};
-ghost use Rattle.text.specs.Unread.{brings, number_brings, unread, Ended, Gave, Took, Alike};
+ghost use Rattle.text.specs.Unread.{brings, number_brings, unread, given, Ended, Gave, Took, Alike, Begins, Grown, KeepsRest, UnlessGiven};
 
 use super::{Reader, Remaining, State};
 use crate::faults::{BookFault, ReadFault, TextFault};
-use crate::limits::{MOST_BYTES, MOST_LITERALS};
 use crate::problem::{Expected, Progress};
+use limits::{MOST_BYTES, MOST_LITERALS};
 use table::filled::Filled;
 use tokens::stream::{Placed, Token, Tokens};
 
@@ -53,6 +53,8 @@ impl<'t, 'p> Reader<'t, 'p> {
     // put into `places`, which are lent, since nothing here allocates.
     pub fn new(text: &'t [u8], limit: u32, places: &'p mut [i32; MOST_LITERALS]) -> Reader<'t, 'p>
         ensures unread { unread result ≡ reading limit text.now }
+        ensures none { given result ≡ [] }
+        ensures places { places_of result.literals ≡ places.old }
     {
         Reader {
             tokens: Tokens::new(text),
@@ -62,18 +64,38 @@ impl<'t, 'p> Reader<'t, 'p> {
         }
     }
 
-    // The literals of the clause that was given last.
+    // The literals of the clause that the last call gave; none where it gave none.
     pub fn clause(&self) -> &[i32]
-        ensures value { result.now ≡ held self.now.literals }
+        ensures value { result.now ≡ given self.now }
     {
-        self.literals.as_slice()
+        match self.state {
+            State::InsideClause(_) => &[],
+            _ => self.literals.as_slice(),
+        }
+    }
+
+    // A clause begins with no literals.
+    fn begin(&mut self)
+        ensures same { unread self.new ≡ unread self.old }
+        ensures tokens { self.new.tokens ≡ self.old.tokens }
+        ensures begins { Begins self.new }
+        ensures rest { KeepsRest self.old self.new }
+    {
+        if !matches!(self.state, State::InsideClause(_)) {
+            self.literals.clear();
+        }
     }
 
     // A number of the clauses, at a place, where the literals that stand before
     // it in its clause are held.
+    #[tactic(auto, using(crate::proofs::Rest::push_keeps))]
     fn number(&mut self, left: Remaining, place: usize, x: i32) -> Result<Option<usize>, ReadFault>
+        requires begins { Begins self.old }
         ensures alike { Alike self.old self.new }
+        ensures rest { KeepsRest self.old self.new }
+        ensures grown { Grown self.old self.new }
         ensures took { Took (number_brings self.old left place x) result self.old self.new }
+        ensures begins { UnlessGiven result (Begins self.new) }
     {
         let size = x.unsigned_abs();
         if size == 0 {
@@ -93,7 +115,11 @@ impl<'t, 'p> Reader<'t, 'p> {
     // Takes a token. Some: it ended a clause, at this place. What a kind of token
     // means in a state stands in one table, since states outlive a call.
     fn take(&mut self, piece: Placed<'_>) -> Result<Option<usize>, ReadFault>
+        requires begins { Begins self.old }
         ensures alike { Alike self.old self.new }
+        ensures rest { KeepsRest self.old self.new }
+        ensures grown { Grown self.old self.new }
+        ensures begins { UnlessGiven result (Begins self.new) }
         ensures took { Took (brings self.old (piece_at piece.entry)) result self.old self.new }
     {
         let Placed { place, token } = piece;
@@ -103,11 +129,9 @@ impl<'t, 'p> Reader<'t, 'p> {
                 Ok(None)
             }
             (_, Token::Comment(_)) => Ok(None),
-            (State::BetweenClauses(left), Token::Number(_, x)) => {
-                self.literals.clear();
+            (State::BetweenClauses(left) | State::InsideClause(left), Token::Number(_, x)) => {
                 self.number(left, place, x)
             }
-            (State::InsideClause(left), Token::Number(_, x)) => { self.number(left, place, x) }
             (State::BetweenClauses(_) | State::InsideClause(_), _) => {
                 Err(TextFault::NotNumber { place }.into())
             }
@@ -132,9 +156,12 @@ impl<'t, 'p> Reader<'t, 'p> {
     // Reads on to the end of the next clause, and tells the place of its
     // ending 0; its literals are then those of `clause`. None: the text has
     // ended well. After that, and after a refusal, the same is told again.
+    #[tactic(auto, using(crate::proofs::Rest::rest_stays, crate::proofs::Rest::none_given))]
     pub fn next_clause(&mut self) -> Result<Option<usize>, ReadFault>
-        ensures gave { Gave (unread self.old) result (held self.new.literals) (unread self.new) }
+        ensures gave { Gave (unread self.old) result (given self.new) (unread self.new) }
+        ensures rest { KeepsRest self.old self.new }
     {
+        self.begin();
         // A copy goes ahead, and is kept once its token is taken: a refusal
         // leaves the reader as it was.
         let mut ahead = self.tokens;

@@ -8,7 +8,7 @@ use Rattle.steps.proofs.Written.{learnt_broken}
 use Rattle.weighing.specs.Books.{standing}
 use Rattle.weighing.proofs.Standing.{reads-broken}
 use Rattle.search.proofs.Left.{at}
-use Rattle.search.proofs.Learnt.{learnt_is, passed, opened, uncritical, unresolved, found, begun, next_told, fits_opposite, learn_keeps}
+use Rattle.search.proofs.Learnt.{learnt_is, passed, opened, uncritical, unresolved, found, begun, next_told, learn_keeps}
 use Rattle.search.proofs.learning.learn.Goals as goal
 
 pub loop-g-init : goal.loop-g-init
@@ -29,23 +29,17 @@ loop-h-init c =
     let t = next_told c.args.book.now c.args.assignment.now.word c.loop-g.g _ _ c.in-Some.literal c.loop-g-test.true c.in-Some.ensures.steps c.loop-literal.invariant.1 in
     begun c.args.book.now c.args.assignment.now.word _ _ (at (standing c.args.book.now) c.loop-g.g) _ _ c.in-Some.literal _ c.in-Some.ensures.steps t.literal c.loop-literal.invariant.2
 
-pub overflow_sub-literal : goal.overflow_sub-literal
-overflow_sub-literal c =
-    let t = next_told c.args.book.now c.args.assignment.now.word c.loop-g.g _ _ c.in-Some.literal c.loop-g-test.true c.in-Some.ensures.steps c.loop-literal.invariant.1 in
-    rw t.literal (fits_opposite c.in-Some.literal t.small)
-
-pub loop-h-preserved-then-not-is_critical : goal.loop-h-preserved-then-not-is_critical
-loop-h-preserved-then-not-is_critical c =
-    let t = next_told c.args.book.now c.args.assignment.now.word c.loop-g.g _ _ c.in-Some.literal c.loop-g-test.true c.in-Some.ensures.steps c.loop-literal.invariant.1 in
-    uncritical c.args.book.now c.args.assignment.now.word _ _ c.loop-h.h _ c.clause.result c.loop-h-test.true c.clause.ensures.value (at (standing c.args.book.now) c.loop-g.g) _ _ t.opposite c.if-not-is_critical.ensures.value
-    c.loop-h.invariant
+pub loop-h-preserved-then-not-is_critical_against : goal.loop-h-preserved-then-not-is_critical_against
+loop-h-preserved-then-not-is_critical_against c =
+    uncritical c.args.book.now c.args.assignment.now.word _ _ c.loop-h.h _ c.clause.result c.loop-h-test.true c.clause.ensures.value (at (standing c.args.book.now) c.loop-g.g) _
+    c.if-not-is_critical_against.ensures.value c.loop-h.invariant
 
 pub loop-h-preserved : goal.loop-h-preserved
 loop-h-preserved c =
     let t = next_told c.args.book.now c.args.assignment.now.word c.loop-g.g _ _ c.in-Some.literal c.loop-g-test.true c.in-Some.ensures.steps c.loop-literal.invariant.1 in
     let b = reads-broken c.args.book.now c.args.assignment.now.word c.loop-g.g _ c.clause-broken.result c.loop-g-test.true c.clause-broken.ensures.value in
-    unresolved c.args.book.now c.args.assignment.now.word _ _ c.loop-h.h _ c.clause.result c.loop-h-test.true c.clause.ensures.value (at (standing c.args.book.now) c.loop-g.g) _ _
-    (sym (c.if-not-is_broken.ensures.value ∙ b)) t.held t.opposite c.if-not-is_critical.ensures.value c.in_default.ensures.value c.loop-h.invariant
+    unresolved c.args.book.now c.args.assignment.now.word _ _ c.loop-h.h _ c.clause.result c.loop-h-test.true c.clause.ensures.value (at (standing c.args.book.now) c.loop-g.g) _
+    (sym (c.if-not-is_broken.ensures.value ∙ b)) t.held c.if-not-is_critical_against.ensures.value c.in_default.ensures.value c.loop-h.invariant
 
 -- the line that is found is the first of all
 first_learnt : (c : goal.In-Some-new_resolvent)
@@ -53,8 +47,8 @@ first_learnt : (c : goal.In-Some-new_resolvent)
 first_learnt c =
     let t = next_told c.args.book.now c.args.assignment.now.word c.loop-g.g _ _ c.in-Some.literal c.loop-g-test.true c.in-Some.ensures.steps c.loop-literal.invariant.1 in
     let b = reads-broken c.args.book.now c.args.assignment.now.word c.loop-g.g _ c.clause-broken.result c.loop-g-test.true c.clause-broken.ensures.value in
-    found c.args.book.now c.args.assignment.now.word _ _ c.loop-h.h _ c.clause.result c.loop-h-test.true c.clause.ensures.value (at (standing c.args.book.now) c.loop-g.g) _ _ _
-    (sym (c.if-not-is_broken.ensures.value ∙ b)) t.held t.opposite c.if-not-is_critical.ensures.value c.in-Some-new_resolvent.ensures.value c.loop-h.invariant
+    found c.args.book.now c.args.assignment.now.word _ _ c.loop-h.h _ c.clause.result c.loop-h-test.true c.clause.ensures.value (at (standing c.args.book.now) c.loop-g.g) _ _
+    (sym (c.if-not-is_broken.ensures.value ∙ b)) t.held c.if-not-is_critical_against.ensures.value c.in-Some-new_resolvent.ensures.value c.loop-h.invariant
 
 pub returns-in-Some-new_resolvent-clause-value : goal.returns-in-Some-new_resolvent-clause-value
 returns-in-Some-new_resolvent-clause-value c = sym (first_learnt c)

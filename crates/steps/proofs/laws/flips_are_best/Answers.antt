@@ -8,6 +8,9 @@ returns-clause-more c = one_more
 pub returns-clause-row : goal.returns-clause-row
 returns-clause-row c = row_counts
 
+pub returns-clause-fewest : goal.returns-clause-fewest
+returns-clause-fewest c = λ cs a w. (row_counts cs a).1 w
+
 pub returns-clause-neighbour : goal.returns-clause-neighbour
 returns-clause-neighbour c = neighbour_differs
 

@@ -1,5 +1,5 @@
 use Rattle.std.proofs.Common.{◌≡◌, ◌+◌, ◌<◌, ◌≤◌, length}
-use Rattle.text.specs.Limits.{most_clauses}
+use Rattle.limits.specs.Limits.{most_clauses}
 use Rattle.text.specs.Reading.{reading, clauses_of}
 use Rattle.text.specs.Unread.{unread}
 use Rattle.histories.specs.Calls.{take_up}
