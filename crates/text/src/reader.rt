@@ -10,8 +10,8 @@ use tokens::stream::Tokens;
 // and the text's number of variables.
 #[derive(Clone, Copy)]
 pub struct Remaining {
-    pub(crate) variables: u32,
-    pub(crate) clauses: u32,
+    pub variables: u32,
+    pub clauses: u32,
 }
 
 // Where in the text the next word stands.

@@ -51,7 +51,7 @@ module _ (limit end n m : ℕ) where
       let after = sizes-after ps _ (λ e'. sizes-complete e' ps) (expect limit e p w) in
       Iff.trans after (expect-brings limit _ e p w)
 
-  line-sizes : (ps : List Piece)
+  pub line-sizes : (ps : List Piece)
       → HasSizes (sizes limit end ProblemWord ps) ↔ HasLine limit Sizes (words_of ps)
   line-sizes ps =
       Iff.trans (sizes-complete ProblemWord ps)

@@ -18,13 +18,13 @@ pub fn is_broken<V: Valuation>(valuation: &V, clause: &Clause) -> bool
     (clause.pos & !falses) | (clause.neg & !trues) == 0
 }
 
-// It holds the literal, this one is true, and its others are false.
+// It holds the literal, this one is true, and its others are false. The value
+// is looked at first and apart, since it is the same for every clause.
 pub fn is_critical<V: Valuation>(valuation: &V, clause: &Clause, literal: i32) -> bool
     ensures value { result ≡ critical (V.Valuation.values valuation.now) literal (signs clause.now) }
 {
-    clause.holds(literal)
-        & (valuation.value(literal) == Value::True)
-        & is_broken(valuation, &clause.without(literal))
+    valuation.value(literal) == Value::True
+        && clause.holds(literal) & is_broken(valuation, &clause.without(literal))
 }
 
 // The clause of all literals of the variables 1 to n that are false.

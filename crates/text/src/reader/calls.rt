@@ -123,12 +123,15 @@ impl<'t, 'p> Reader<'t, 'p> {
         ensures took { Took (brings self.old (piece_at piece.entry)) result self.old self.new }
     {
         let Placed { place, token } = piece;
+        // Passed over in every state, and none is written for it.
+        if matches!(token, Token::Comment(_)) {
+            return Ok(None);
+        }
         match (self.state, token) {
             (State::BeforeProblem(expected), _) => {
                 self.state = expected.take(self.limit, piece)?.into();
                 Ok(None)
             }
-            (_, Token::Comment(_)) => Ok(None),
             (State::BetweenClauses(left) | State::InsideClause(left), Token::Number(_, x)) => {
                 self.number(left, place, x)
             }
@@ -162,8 +165,8 @@ impl<'t, 'p> Reader<'t, 'p> {
         ensures rest { KeepsRest self.old self.new }
     {
         self.begin();
-        // A copy goes ahead, and is kept once its token is taken: a refusal
-        // leaves the reader as it was.
+        // A copy goes ahead, and is kept once its token is taken: a word that
+        // was refused is met again.
         let mut ahead = self.tokens;
         if ahead.text_len() > MOST_BYTES {
             return Err(TextFault::TooLong.into());

@@ -11,10 +11,11 @@ ghost use Rattle.tokens.specs.Scanning.{GapEnds, opens_here, coming, piece_at, I
 use super::{Placed, Token, Tokens};
 use crate::numbers::number;
 
+// Few bytes of a word are at most a blank, so that test alone mostly decides.
 fn parts(b: u8) -> bool
     ensures value { result ≡ parts_words b }
 {
-    matches!(b, b' ' | b'\t' | b'\r' | b'\n')
+    b <= b' ' && matches!(b, b' ' | b'\t' | b'\r' | b'\n')
 }
 
 // Three counts and not one over the test: that one stays unproved, since no
@@ -35,7 +36,9 @@ fn word_len(bytes: &[u8]) -> usize
     bytes.iter().take_while(|b| !parts(**b)).count()
 }
 
-// How many bytes of a line stand here, without its LF.
+// How many bytes of a line stand here, without its LF. Not inlined: where a
+// comment begins, the loop over its other bytes would be a slower one.
+#[inline(never)]
 fn line_len(bytes: &[u8]) -> usize
     ensures value { result ≡ prefix_len (λ b. not (ends_line b)) bytes.now }
 {
@@ -114,6 +117,7 @@ impl<'a> Tokens<'a> {
 
     // The comment that begins here. That the text stays ties what is there after
     // a call to what was before, which no invariant of a value says.
+    #[inline(always)]
     #[tactic(auto, using(crate::proofs::Gaps::within, crate::proofs::Gaps::first_comment))]
     fn comment(&mut self) -> Placed<'a>
         requires within { self.old.at < length self.old.text.now }
@@ -131,6 +135,7 @@ impl<'a> Tokens<'a> {
     }
 
     // The word that begins here.
+    #[inline(always)]
     #[tactic(auto, using(crate::proofs::Gaps::within, crate::proofs::Gaps::first_word))]
     fn word(&mut self) -> Placed<'a>
         requires within { self.old.at < length self.old.text.now }
@@ -157,6 +162,8 @@ impl<'a> Iterator for Tokens<'a> {
 
     ghost remaining = { λ s. at_most (length (coming s)) };
 
+    // Inlined, so that no token is written down to be read again.
+    #[inline(always)]
     fn next(&mut self) -> Option<Placed<'a>> {
         self.skip_gap();
         if self.at == self.text.len() {
