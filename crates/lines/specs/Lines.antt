@@ -1,7 +1,8 @@
 -- The lines of a book: where each comes from, and the four facts that every
 -- book keeps. A book is the list of a session's lines, numbered from 1,
--- oldest first. Definitions look into an origin here alone, but for the crate
--- `clause_laws`, which says the four facts line by line. Assumes nothing.
+-- oldest first. Definitions look into an origin here, where the four facts are
+-- said line by line (`clause_laws`), where lines are written out (`pages`,
+-- `protocol`) and in one law of the steps. Assumes nothing.
 use Rattle.std.specs.Prelude.{ℕ, zero, suc, Bool, true, false, cond, not, ◌&&◌, List, [], ◌∷◌, ◌++◌, map, take, drop, Some, None, Option}
 use Rattle.words.specs.Bits.{keep}
 use Rattle.clauses.specs.declared.clause.Clause.{Clause}

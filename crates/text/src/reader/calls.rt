@@ -112,7 +112,7 @@ impl<'t, 'p> Reader<'t, 'p> {
         Ok(None)
     }
 
-    // Takes a token. Some: it ended a clause, at this place. What a kind of token
+    // Takes a token. Some: it ended a clause, at this place. What a kind of word
     // means in a state stands in one table, since states outlive a call.
     fn take(&mut self, piece: Placed<'_>) -> Result<Option<usize>, ReadFault>
         requires begins { Begins self.old }
@@ -123,7 +123,7 @@ impl<'t, 'p> Reader<'t, 'p> {
         ensures took { Took (brings self.old (piece_at piece.entry)) result self.old self.new }
     {
         let Placed { place, token } = piece;
-        // Passed over in every state, and none is written for it.
+        // Passed over in every state, and no state is written for it.
         if matches!(token, Token::Comment(_)) {
             return Ok(None);
         }

@@ -36,8 +36,8 @@ fn word_len(bytes: &[u8]) -> usize
     bytes.iter().take_while(|b| !parts(**b)).count()
 }
 
-// How many bytes of a line stand here, without its LF. Not inlined: where a
-// comment begins, the loop over its other bytes would be a slower one.
+// How many bytes of a line stand here, without its LF. Not inlined: inlined
+// where a comment begins, its loop over the bytes was a slower one.
 #[inline(never)]
 fn line_len(bytes: &[u8]) -> usize
     ensures value { result ≡ prefix_len (λ b. not (ends_line b)) bytes.now }
